@@ -1,4 +1,5 @@
 /* Contexts: what a program asks for, written down. */
+#include "edition.h"
 #include "filter.h"
 #include <errno.h>
 #include <pthread.h>
@@ -121,7 +122,7 @@ int judge_action(uint32_t action) {
 /* ---- versions */
 
 API const struct scmp_version *seccomp_version(void) {
-    static const struct scmp_version version = {2, 5, 1004}; /* not libseccomp's: who keeps filters by its version makes new ones */
+    static const struct scmp_version version = {2, 5, EDITION};
     return &version;
 }
 

@@ -14,9 +14,9 @@ extern const struct machine MACHINE[MACHINES];
 enum { X86_64, X32, X86, AARCH64, ARM }; /* in this order ccell takes the rules of a bundle */
 
 #if defined __x86_64__ && !defined __ILP32__
-enum { NATIVE = X86_64, FAMILY = 1 << X86_64 | 1 << X86 | 1 << X32 };
+enum { NATIVE = X86_64 };
 #elif defined __aarch64__
-enum { NATIVE = AARCH64, FAMILY = 1 << AARCH64 | 1 << ARM };
+enum { NATIVE = AARCH64 };
 #else
 #error ccell makes filters for x86-64 and AArch64
 #endif
@@ -37,7 +37,6 @@ struct rule {
     int call, number; /* number: where the call has no name */
     unsigned count;
     struct ccell_condition conditions[ARGUMENTS]; /* in the order of arguments */
-    uint64_t key;  /* of the call and its conditions: most rules that differ have different ones */
     size_t before; /* the place of the last rule before it that has its slot, counted from 1 */
 };
 
@@ -66,10 +65,20 @@ bool has_more_rights(uint32_t action, uint32_t other);
 
 /* Drops the rules from this place on. */
 void drop_rules(struct filter *filter, size_t count);
+/* The place, counted from 1, of the last rule for a call before a place that is counted so, or of its last one of all where that is 0;
+ * 0 where there is none. */
+size_t rule_before(const struct filter *filter, int call, int number, size_t place);
 /* The first rule without conditions for a call on a machine, or NULL. */
 const struct rule *whole_rule(const struct filter *filter, int call, int number, int machine);
 /* The machines on which a rule counts beside the others. */
-uint32_t counting(const struct filter *filter, const struct rule *rule, size_t place);
+uint32_t counting(const struct filter *filter, const struct rule *rule);
+
+/* Whether a rule can stand beside those that were added before it: 0, or an error. */
+int judge_rule(const struct filter *filter, const struct rule *rule);
+/* On x86: the call, socketcall or ipc, that makes the call of a rule, too, with the number that its first argument then is; or -1. */
+int way_of(const struct rule *rule, uint64_t *first);
+/* What a rule without conditions says of that call. */
+struct rule rule_of_way(const struct filter *filter, const struct rule *rule, int way, uint64_t first);
 
 /* Whether rules settle each other as in libseccomp: of a call's rules on a machine the first one without conditions counts alone. */
 extern bool settles;
@@ -82,7 +91,7 @@ void forget_why(void); /* at the begin of each call of the interface */
 
 struct text { char is[512]; };
 struct text action_text(uint32_t action);
-struct text rule_text(const struct rule *rule, size_t place);
+struct text rule_text(const struct rule *rule);
 
 /* Makes the filter of what was asked for: 0, or an error of libseccomp. */
 int make(struct filter *filter);

@@ -57,17 +57,10 @@ API int seccomp_precompute(const scmp_filter_ctx ctx) {
 
 /* What is read by people: a line for each machine and each rule, as it was added. */
 static void list_rules(const struct filter *filter, FILE *to) {
-    fprintf(to, "# rules as they were added, for ccell\ndefault %#x\n", filter->now.attributes[DEFAULT_ACTION]);
+    fprintf(to, "# rules as they were added, for ccell\ndefault %s\n", action_text(filter->now.attributes[DEFAULT_ACTION]).is);
     for (int i = 0; i < MACHINES; i++)
         if (filter->now.machines >> i & 1) fprintf(to, "machine %s\n", MACHINE[i].name);
-    for (size_t i = 0; i < filter->now.count; i++) {
-        const struct rule *rule = &filter->rules[i];
-        fprintf(to, "rule %zu %s %d %#x", i, rule->call < 0 ? "-" : call_name(rule->call), rule->number, rule->action);
-        for (unsigned k = 0; k < rule->count; k++)
-            fprintf(to, " arg%u op%u %#llx %#llx", rule->conditions[k].argument, rule->conditions[k].operator_,
-                    (unsigned long long)rule->conditions[k].value, (unsigned long long)rule->conditions[k].datum);
-        fputc('\n', to);
-    }
+    for (size_t i = 0; i < filter->now.count; i++) fprintf(to, "%s\n", rule_text(&filter->rules[i]).is);
 }
 
 API int seccomp_export_pfc(const scmp_filter_ctx ctx, int fd) {

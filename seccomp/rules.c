@@ -22,38 +22,24 @@ static int read_conditions(struct rule *rule, unsigned count, const struct scmp_
     return 0;
 }
 
-static uint64_t mixed(uint64_t key, uint64_t word) { return (key ^ word) * 0x9e3779b97f4a7c15; }
+/* ---- the list of rules, and the slots in which those of a call find each other */
 
-static uint64_t key_of(const struct rule *rule) {
-    uint64_t key = mixed((uint32_t)rule->call, (uint32_t)rule->number);
-    for (unsigned i = 0; i < rule->count; i++) {
-        const struct ccell_condition *own = &rule->conditions[i];
-        key = mixed(mixed(mixed(mixed(key, own->argument), own->operator_), own->value), own->datum);
-    }
-    return key;
+static size_t *slot_of(const struct filter *filter, int call, int number) {
+    uint64_t key = ((uint64_t)(uint32_t)call << 32 | (uint32_t)number) * 0x9e3779b97f4a7c15;
+    return &filter->latest[key >> 32 & (filter->room - 1)];
 }
-
-static bool is_same(const struct rule *a, const struct rule *b) {
-    return a->key == b->key && a->call == b->call && a->number == b->number && a->count == b->count &&
-           !memcmp(a->conditions, b->conditions, a->count * sizeof *a->conditions);
-}
-
-/* ---- the list of rules, and the slots in which those that are the same but for action and machines find each other */
-
-static size_t *slot_of(const struct filter *filter, uint64_t key) { return &filter->latest[key >> 32 & (filter->room - 1)]; }
 
 static void enter(struct filter *filter, size_t place) {
     struct rule *rule = &filter->rules[place];
-    size_t *slot = slot_of(filter, rule->key);
+    size_t *slot = slot_of(filter, rule->call, rule->number);
     rule->before = *slot;
     *slot = place + 1;
 }
 
-/* The last rule before a place, counted from 1, that is the same; its own place counted from 1, or 0. The place 0 stands for the end. */
-static size_t same_before(const struct filter *filter, const struct rule *rule, size_t place) {
+size_t rule_before(const struct filter *filter, int call, int number, size_t place) {
     if (!filter->room) return 0;
-    size_t at = place ? filter->rules[place - 1].before : *slot_of(filter, rule->key);
-    while (at && !is_same(&filter->rules[at - 1], rule)) at = filter->rules[at - 1].before;
+    size_t at = place ? filter->rules[place - 1].before : *slot_of(filter, call, number);
+    while (at && (filter->rules[at - 1].call != call || filter->rules[at - 1].number != number)) at = filter->rules[at - 1].before;
     return at;
 }
 
@@ -76,51 +62,53 @@ static int grow(struct filter *filter) {
 void drop_rules(struct filter *filter, size_t count) {
     while (filter->now.count > count) {
         const struct rule *last = &filter->rules[--filter->now.count];
-        *slot_of(filter, last->key) = last->before;
+        *slot_of(filter, last->call, last->number) = last->before;
     }
 }
 
 const struct rule *whole_rule(const struct filter *filter, int call, int number, int machine) {
-    struct rule wanted = {.call = call, .number = number};
     const struct rule *first = NULL;
-    wanted.key = key_of(&wanted);
-    for (size_t at = 0; (at = same_before(filter, &wanted, at));)
-        if (filter->rules[at - 1].machines >> machine & 1) first = &filter->rules[at - 1];
+    for (size_t at = 0; (at = rule_before(filter, call, number, at));)
+        if (!filter->rules[at - 1].count && filter->rules[at - 1].machines >> machine & 1) first = &filter->rules[at - 1];
     return first;
 }
 
-uint32_t counting(const struct filter *filter, const struct rule *rule, size_t place) {
+uint32_t counting(const struct filter *filter, const struct rule *rule) {
     uint32_t machines = rule->machines;
     for (int machine = 0; settles && machine < MACHINES; machine++) {
         const struct rule *whole = machines >> machine & 1 ? whole_rule(filter, rule->call, rule->number, machine) : NULL;
         if (!whole || whole == rule) continue;
         machines &= ~(1u << machine);
         if (whole->action != rule->action)
-            refuse(0, "%s: on %s it counts for nothing beside rule %zu: %s", rule_text(rule, place).is, MACHINE[machine].name,
-                   (size_t)(whole - filter->rules), action_text(whole->action).is);
+            refuse(0, "%s: on %s it counts for nothing beside %s", rule_text(rule).is, MACHINE[machine].name, rule_text(whole).is);
     }
     return machines;
 }
 
-/* Whether the rule is there already, 1, or contradicts one that is the same but for its action, which is refused at once, as in
+static bool has_same_conditions(const struct rule *a, const struct rule *b) {
+    return a->count == b->count && !memcmp(a->conditions, b->conditions, a->count * sizeof *a->conditions);
+}
+
+/* Whether the rule is there already, 1, or contradicts one that is the same but for its action, whatever machines have the call, as in
  * libseccomp. */
 static int find_same(const struct filter *filter, const struct rule *rule) {
     int answer = 0;
-    for (size_t at = 0; (at = same_before(filter, rule, at));) {
+    for (size_t at = 0; (at = rule_before(filter, rule->call, rule->number, at));) {
         const struct rule *old = &filter->rules[at - 1];
-        if (!(old->machines & rule->machines)) continue;
-        if (old->action != rule->action)
-            return refuse(-EEXIST, "%s contradicts %s", rule_text(rule, filter->now.count).is, rule_text(old, at - 1).is);
+        if (!(old->machines & rule->machines) || !has_same_conditions(old, rule)) continue;
+        if (old->action != rule->action) return refuse(-EEXIST, "%s contradicts %s", rule_text(rule).is, rule_text(old).is);
         if ((old->machines & rule->machines) == rule->machines) answer = 1;
     }
     return answer;
 }
 
 static int append(struct filter *filter, struct rule *rule) {
-    rule->machines = counting(filter, rule, filter->now.count);
+    rule->machines = counting(filter, rule);
     if (!rule->machines) return 0;
     int found = find_same(filter, rule);
     if (found) return found < 0 ? found : 0;
+    int error = judge_rule(filter, rule);
+    if (error) return error;
     if (filter->now.count == filter->room && grow(filter)) return -ENOMEM;
     filter->rules[filter->now.count] = *rule;
     enter(filter, filter->now.count++);
@@ -155,7 +143,6 @@ static int add(struct filter *filter, bool exact, uint32_t action, int number, u
     } else if (!one_has(rule.machines, rule.call)) {
         return exact ? -EDOM : 0; /* no machine that is listed has the call */
     }
-    rule.key = key_of(&rule);
     return append(filter, &rule);
 }
 

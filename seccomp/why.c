@@ -103,13 +103,13 @@ static size_t add_condition(char *to, size_t room, const struct ccell_condition 
     return (size_t)length;
 }
 
-/* As `socket (rule 3: ERRNO 1 where arg0 == 0x28)`. */
-struct text rule_text(const struct rule *rule, size_t place) {
+/* As `socket (ERRNO 1 where arg0 == 0x28)`. */
+struct text rule_text(const struct rule *rule) {
     struct text text;
     char number[16];
     snprintf(number, sizeof number, "call %d", rule->number);
     const char *name = rule->call < 0 ? number : call_name(rule->call);
-    size_t length = (size_t)snprintf(text.is, sizeof text.is, "%s (rule %zu: %s", name, place, action_text(rule->action).is);
+    size_t length = (size_t)snprintf(text.is, sizeof text.is, "%s (%s", name, action_text(rule->action).is);
     for (unsigned i = 0; i < rule->count; i++) {
         length += (size_t)snprintf(text.is + length, sizeof text.is - length, "%s", i ? " and " : " where ");
         length += add_condition(text.is + length, sizeof text.is - length, &rule->conditions[i]);

@@ -38,7 +38,7 @@ static int refuse_rules(int times) {
     int bad = seccomp_rule_add_array(ctx, ERRNO | 1, SYS_mkdirat, 0, NULL) != 0 || *ccell_why();
     for (int i = 0; i < times; i++) {
         bad |= seccomp_rule_add_array(ctx, ERRNO | 13, SYS_mkdirat, 0, NULL) != -EEXIST;
-        bad |= strcmp(ccell_why(), "mkdirat (rule 1: ERRNO 13) contradicts mkdirat (rule 0: ERRNO 1)") != 0;
+        bad |= strcmp(ccell_why(), "mkdirat (ERRNO 13) contradicts mkdirat (ERRNO 1)") != 0;
     }
     bad |= seccomp_rule_add_array(ctx, ERRNO | 1, SYS_mkdirat, 0, NULL) != 0 || *ccell_why();
     seccomp_release(ctx);
@@ -68,7 +68,7 @@ static int ended(int standard_error, int times, bool asks) {
 
 /* How many lines came: -1 if one is not as it has to be. */
 static int lines_in(int from) {
-    static const char line[] = "libseccomp of ccell: mkdirat (rule 1: ERRNO 13) contradicts mkdirat (rule 0: ERRNO 1)\n";
+    static const char line[] = "libseccomp of ccell: mkdirat (ERRNO 13) contradicts mkdirat (ERRNO 1)\n";
     char held[sizeof line];
     int count = 0;
     for (ssize_t got; (got = read(from, held, sizeof line - 1)) > 0; count++)

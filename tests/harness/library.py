@@ -151,13 +151,13 @@ def conforms(line):
 
 
 def certified(line, filtered, maker="certify"):
-    """How many nodes the certificate of a filter has, which the checker takes; or why there is none."""
+    """How many nodes the certificate of a filter has, which the checker takes; or why there is none: `wrong` if there is a counterexample."""
     if not is_digits(filtered):
         return [filtered]
     both = [line, f"filter bytes {filtered}"]
     *_, (cert,) = yield [*both, f"profile {maker}"]
     if not is_digits(cert):
-        return [cert]
+        return [cert.removeprefix("refused certify ")]
     *_, (said,) = yield [*both, f"profile check {cert}"]
     count = struct.unpack_from("<I", bytes.fromhex(cert), 8)[0]
     return [f"yes, {count} nodes" if said == "yes" else said]

@@ -207,12 +207,10 @@ def faults_of_files(page, text):
 
 
 def faults_of_crates(page, text):
-    """A table of crates: its rows are those of crates.txt."""
+    """The tables of crates: their rows are together those of crates.txt."""
     crates = re.findall(r"^(\w+)(?: \w+)?:", read("crates.txt"), re.M)
-    for head, *rows in tables(text):
-        if head[0] == "Crate" and sorted(re.sub("`", "", row[0]) for row in rows) != sorted(crates):
-            return ["a table of crates has not those of crates.txt"]
-    return []
+    shown = [re.sub("`", "", row[0]) for head, *rows in tables(text) if head[:2] == ["Crate", "Of the kit"] for row in rows]
+    return ["its tables of crates have not those of crates.txt"] if shown and sorted(shown) != sorted(crates) else []
 
 
 def faults_of_commands(page, text):

@@ -81,11 +81,18 @@ finds 'dist/libseccomp.so.2: not what is built' 'printf evil >>libseccomp.so.2'
 finds 'dist/aarch64/libseccomp.so.2: not what is built' 'printf x >>aarch64/libseccomp.so.2'
 finds 'dist/kit: built by' "sed -i '1$other' kit"
 finds 'dist/kit: built by' ': >kit'
+finds "dist/kit: edition '1'" "sed -i 's/^edition: .*/edition: 1/' kit"
 finds 'dist/ask: built of other sources' 'echo 0 >ask.inputs'
 finds 'dist/libseccomp.so.2: built of other sources' 'rm libseccomp.so.2.inputs'
 finds_by_sums 'rm SHA256SUMS'
 finds_by_sums 'sed -i 1d SHA256SUMS'
 finds_by_sums 'echo more >more'
+
+make_copy
+printf x >>"$dist/libseccomp.so.2"
+count "$( (write) >/dev/null 2>&1 && echo written || echo refused)" refused 'another library of the same edition'
+sed -i 's/^edition: .*/edition: 1/' "$dist/kit"
+count "$( (write) >/dev/null 2>&1 && echo written || echo refused)" written 'another library of a higher edition'
 
 make_copy
 this_kit='rattle-kit-0 logic 0'

@@ -1,8 +1,8 @@
 //! Questions on profiles: `bundle MACHINE TEXT` and `build NATIVE DEFAULT COUNT MACHINE .. COUNT RULE ..` make one and tell its
 //! parts, and `decide RECORD` asks for its verdict. Of it and the filter, `compile` makes the filter, and `certify` the
-//! certificate, as does `follow`, which follows each path: these tell their bytes. `check CERTIFICATE` asks the checker, and
-//! `agrees` whether their verdicts are alike on the records of the last `grid COUNT NUMBER .. COUNT ARGUMENTS ..`. `keep` has
-//! the three kept for containers.
+//! certificate, as does `follow`, which follows each path: these tell their bytes. If there is a counterexample, `certify` tells
+//! `wrong`. `check CERTIFICATE` asks the checker, and `agrees` whether their verdicts are alike on the records of the last
+//! `grid COUNT NUMBER .. COUNT ARGUMENTS ..`. `keep` has the three kept for containers.
 
 use crate::answers::Answers;
 use crate::desk::{Desk, Made};
@@ -11,8 +11,9 @@ use crate::question::Question;
 use crate::rules::rules_in;
 use bpf_insn::Program;
 use cert_check::check;
-use certify::{CertifyError, by_paths};
+use certify::by_paths;
 use kernel_check::accept;
+use maker::{Evidence, judge_filter};
 use profile::Profile;
 use profile_json::read_bundle;
 use rule_compile::compile;
@@ -115,19 +116,15 @@ fn tell_parts(out: &mut Answers, profile: &Profile) {
 
 // Tells the bytes of a certificate of a filter for a profile, or why there is none, and gives them.
 fn certified(out: &mut Answers, profile: &Profile, filter: &[u8]) -> Vec<u8> {
-    match Program::view(filter) {
-        Ok(program) => {
-            let made = match accept(&program) {
-                Ok(accepted) => maker::certified(out.alloc, profile, &accepted),
-                Err(refused) => Err(CertifyError::Undecided(refused.pc)),
-            };
-            out.tell_made(made)
+    match judge_filter(out.alloc, profile, filter) {
+        Ok(Evidence::Certificate(bytes)) => {
+            out.tell_bytes(&bytes);
+            return bytes;
         }
-        Err(_) => {
-            out.fail();
-            Vec::new(out.alloc)
-        }
+        Ok(Evidence::Convicting(_found)) => out.tell("wrong"),
+        Err(unready) => out.tell(unready),
     }
+    Vec::new(out.alloc)
 }
 
 // The same of the certificate that follows each path of the filter.

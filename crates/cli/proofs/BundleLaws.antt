@@ -4,7 +4,7 @@ use Rattle.std.proofs.lemmas.List.{map-append, take_more}
 use denote.Ref.{Bor}
 use Rattle.std.specs.Prelude.{Option, Result, Ok, Err}
 use Rattle.call_tables.specs.declared.arch.Arch.{Arch}
-use Rattle.explain.specs.declared.told.Told.{Told}
+use Rattle.wording.specs.declared.told.Told.{Told}
 use Rattle.cli.specs.declared.stops.Stop.{Stop}
 use Rattle.cli.specs.Dispatch.{FirstUnread, HaveBundles, HaveBytes, StopsAt}
 use Rattle.cli.specs.Files.{Folder, HasBundle}

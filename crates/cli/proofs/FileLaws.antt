@@ -22,8 +22,8 @@ use Rattle.maker.specs.declared.unready.Unready.{Unready}
 use Rattle.maker.specs.declared.unready.Unready.TheVariants.{Profile, Compile, Certify, Check, OutOfMemory}
 use Rattle.maker.specs.declared.verdict.Answer.{Answer}
 use Rattle.maker.specs.declared.verdict.Answer.TheVariants.{Verdict, NoRecord, NoProgram, Refusal}
-use Rattle.explain.specs.Shown.{IsShown}
-use Rattle.explain.specs.declared.told.Told.{Told}
+use Rattle.show.specs.Shown.{IsShown}
+use Rattle.wording.specs.declared.told.Told.{Told}
 use Rattle.compare.specs.declared.behind_runc.stub.calls.Calls.{Calls}
 use Rattle.maker.specs.declared.evidence.evidence.Conviction.{Conviction}
 use Rattle.compare.specs.Convictions.{AllConvict, Convicts, TellsAll}

@@ -37,7 +37,7 @@ use Rattle.session.specs.Answer.{answer_of}
 use Rattle.session.specs.Commands.{first_called}
 use Rattle.session.specs.Laws.{IsScript}
 use Rattle.session.specs.Scripts.{HasReadAll}
-use Rattle.explain.specs.script.Lines.{Parts}
+use Rattle.script.specs.Lines.{Parts}
 use Rattle.maker.specs.Exported.{IsCheckedOf}
 use Rattle.maker.specs.Finding.{IsBundle}
 use Rattle.cli.specs.Headline.{Headline, IsRightFor, NameGives}

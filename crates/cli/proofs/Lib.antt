@@ -5,7 +5,6 @@ mod ReportLaws
 mod EnoughLaws
 mod FileLaws
 mod FoundLaws
-mod NamedLaws
 mod WantedLaws
 mod FormLaws
 mod BundleLaws
@@ -15,10 +14,5 @@ mod ExplainedLaws
 mod StatusLaws
 mod LogLaws
 mod ReadLaws
-pub mod PlainWalks
-pub mod Lists
-pub mod Grammars
-pub mod Leaves
-pub mod Names
-pub mod Readings
-pub mod Told
+mod AuditLaws
+mod PartLaws

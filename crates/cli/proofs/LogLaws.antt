@@ -5,18 +5,18 @@ use Rattle.std.specs.List.{zip}
 use Rattle.std.specs.Io.KnownBytes.{Consumes, IsAtEnd}
 use Rattle.std.specs.Prelude.{Bool, true, false, Option, None, Some, Result, Ok, Err}
 use Rattle.call_tables.specs.declared.arch.Arch.{Arch}
-use Rattle.explain.specs.declared.told.Told.{Told}
+use Rattle.wording.specs.declared.told.Told.{Told}
 use Rattle.texts.specs.Failures.{Failures}
 use Rattle.cli.specs.declared.adapting.Both.{Both}
 use denote.Ref.{Bor}
-use Rattle.explain.specs.learn.Given.{GivesAll}
-use Rattle.explain.specs.learn.Logged.{parts_of}
-use Rattle.explain.specs.learn.Replayed.{TellsReplayed}
-use Rattle.explain.specs.declared.learn.logs.Log.{Log}
-use Rattle.explain.specs.declared.learn.lists.Otherwise.{Otherwise}
-use Rattle.explain.specs.declared.learn.lists.Runtime.{Runtime}
-use Rattle.explain.specs.declared.learn.reading.Shown.{Shown}
-use Rattle.explain.specs.learn.Taken.{HaveShown}
+use Rattle.strace_logs.specs.Given.{GivesAll}
+use Rattle.strace_logs.specs.Logged.{parts_of}
+use Rattle.strace_logs.specs.Replayed.{TellsReplayed}
+use Rattle.strace_logs.specs.declared.logs.Log.{Log}
+use Rattle.strace_logs.specs.declared.lists.Otherwise.{Otherwise}
+use Rattle.strace_logs.specs.declared.lists.Runtime.{Runtime}
+use Rattle.strace_logs.specs.declared.reading.Shown.{Shown}
+use Rattle.strace_logs.specs.Taken.{HaveShown}
 use Rattle.cli.specs.declared.stops.Stop.{Stop}
 use Rattle.cli.specs.declared.stops.Stop.TheVariants.{Usage, CannotRead, Read, Write, OutOfMemory}
 use Rattle.cli.specs.Dispatch.{AnswersLearn, AnswersLogs, AnswersNamed, FirstUnread, HaveBytes, StopsAtLog}

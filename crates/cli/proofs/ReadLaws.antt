@@ -6,9 +6,9 @@ use Rattle.profile_json.specs.Breaks.{Breaks}
 use Rattle.profile_json.specs.Fault.{fault_of, text_of}
 use Rattle.profile_json.specs.declared.fault.ProfileError.{ProfileError}
 use Rattle.profile_json.specs.declared.fault.ProfileError.TheVariants.{OutOfMemory}
-use Rattle.explain.specs.Read.{IsReadOut}
-use Rattle.explain.specs.Told.{TellsLine}
-use Rattle.explain.specs.declared.told.Told.{Told}
+use Rattle.show.specs.Read.{IsReadOut}
+use Rattle.wording.specs.Told.{TellsLine}
+use Rattle.wording.specs.declared.told.Told.{Told}
 use Rattle.cli.specs.Read.{HasHint, TellsRead, TellsRules}
 
 pub of_not : (b : Bool) → not b ≡ false → b ≡ true

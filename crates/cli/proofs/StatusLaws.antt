@@ -1,19 +1,24 @@
 -- What a status of 0 says, of what the program did.
-use Rattle.std.proofs.Common.{◌≡◌, ℕ, Bool, true, inl, inr, List, ◌++◌, refl, subst, ◌∙◌}
+use Rattle.std.proofs.Common.{◌≡◌, ◌⊎◌, ℕ, Bool, true, false, codes, inl, inr, List, [], ◌∷◌, ◌++◌, refl, subst, ◌∙◌}
 use Rattle.std.specs.Prelude.{Option, Some, Result, Ok, Err}
 use Rattle.call_tables.specs.declared.arch.Arch.{Arch}
 use Rattle.texts.specs.Failures.{Failures}
 use Rattle.texts.specs.declared.streams.fault.WriteFault.{WriteFault}
+use Rattle.compare.specs.Behind.{CertifiesBehind, WritesBehind}
+use Rattle.compare.specs.declared.behind_runc.stub.calls.Calls.{Calls}
+use Rattle.maker.specs.Certified.{Certifies}
 use Rattle.maker.specs.Finding.{IsFinding, WritesFinding, is_yes}
 use Rattle.maker.specs.declared.check.Finding.{Finding}
 use Rattle.maker.specs.declared.check.Finding.TheVariants.{Yes, No, NoProfile}
 use Rattle.cli.specs.declared.stops.Stop.{Stop}
 use Rattle.cli.specs.declared.stops.Stop.TheVariants.{Usage, CannotRead, Read, Write, OutOfMemory}
-use Rattle.cli.specs.Dispatch.{AnswersCheck, AnswersRun}
-use Rattle.cli.specs.Files.{Folder}
+use Rattle.command_line.specs.declared.prose.Command.TheVariants.{Certify, Check, Run}
+use Rattle.cli.specs.Dispatch.{AnswersBehind, AnswersCertify, AnswersCheck, AnswersRun, Does}
+use Rattle.cli.specs.Parts.{native_of}
+use Rattle.cli.specs.Files.{Folder, HasBundle, HasBytes}
 use Rattle.cli.specs.Running.{HasAnswered, told_line}
 use Rattle.cli.specs.Headline.{IsAnswerTo}
-use Rattle.cli.specs.Statuses.{AreRight, HasRun}
+use Rattle.cli.specs.Statuses.{AreRight, AreRightBehind, HasRun}
 use Rattle.cli.specs.Stop.{status_of}
 use Rattle.cli.proofs.HeadlineLaws.{headline}
 use Rattle.cli.proofs.RunLaws.{script_is_answered}
@@ -45,10 +50,10 @@ module _ {O : Type 0} (held : O → Option (List ℕ)) (failures : O → Failure
       yes_of native b f c written.finding written.stands (same ∙ written.told)
   found b f c (Err fault) written e = absurd (no_error e)
 
-  pub check_is_right : (folder : Option Folder) (bundle filter cert : List ℕ)
+  check_told : (folder : Option Folder) (bundle filter cert : List ℕ)
       → AnswersCheck held failures folder old new native bundle filter cert (Ok true) → AreRight folder native bundle filter
-  check_is_right folder bundle filter cert (inl stops) = absurd (no_error stops.told)
-  check_is_right folder bundle filter cert (inr (b, f, c, of_bundle, of_filter, of_cert, by)) =
+  check_told folder bundle filter cert (inl stops) = absurd (no_error stops.told)
+  check_told folder bundle filter cert (inr (b, f, c, of_bundle, of_filter, of_cert, by)) =
       let right = headline.yes native b f c (found b f c by.answer by.written by.told) in record {
         b = b;
         f = f;
@@ -57,6 +62,71 @@ module _ {O : Type 0} (held : O → Option (List ℕ)) (failures : O → Failure
         policy = right.0;
         right = right.1;
       }
+
+  -- a certificate was written
+  certified : (b f : List ℕ) (answer : Result Bool WriteFault) → Certifies held failures old new native b f answer
+      → Ok true ≡ told_line answer → (cert : List ℕ) × IsFinding native b f cert Yes
+  certified b f (Ok done) (inl wrote) e = (wrote.cert, wrote.is)
+  certified b f (Ok done) (inr (inl found)) e = let no : done ≡ false = found.told in absurd (cc)
+  certified b f (Ok done) (inr (inr (inl undecided))) e = let no : done ≡ false = undecided.told in absurd (cc)
+  certified b f (Ok done) (inr (inr (inr lacks))) e = let no = lacks.0 in absurd (cc)
+  certified b f (Err fault) written e = absurd (no_error e)
+
+  right_of : (folder : Option Folder) (bundle filter b f cert : List ℕ) → HasBundle native folder bundle b → HasBytes folder filter f
+      → IsFinding native b f cert Yes → AreRight folder native bundle filter
+  right_of folder bundle filter b f cert of_bundle of_filter is =
+      let right = headline.yes native b f cert is in record {
+        b = b;
+        f = f;
+        bundle_has = of_bundle;
+        filter_has = of_filter;
+        policy = right.0;
+        right = right.1;
+      }
+
+  certify_told : (folder : Option Folder) (bundle filter : List ℕ)
+      → AnswersCertify held failures folder old new native bundle filter (Ok true) → AreRight folder native bundle filter
+  certify_told folder bundle filter (inl stops) = absurd (no_error stops.told)
+  certify_told folder bundle filter (inr (b, f, of_bundle, of_filter, by)) =
+      let found = certified b f by.answer by.written by.told in
+      right_of folder bundle filter b f found.0 of_bundle of_filter found.1
+
+  -- a certificate was written of what stands behind a stub
+  behind : (folder : Option Folder) (bundle filter b f rest : List ℕ) (answered : List Calls) (whole : Bool) (answer : Result Bool WriteFault)
+      → HasBundle native folder bundle b → HasBytes folder filter f
+      → WritesBehind held failures old new native b f rest answered whole answer → Ok true ≡ told_line answer
+      → AreRight folder native bundle filter ⊎ AreRightBehind folder native bundle filter
+  behind folder bundle filter b f rest answered true answer of_bundle of_filter written e =
+      let found = certified b f answer written e in
+      inl (right_of folder bundle filter b f found.0 of_bundle of_filter found.1)
+  behind folder bundle filter b f rest answered false (Ok done) of_bundle of_filter (inl found) e =
+      let no : done ≡ false = found.told in absurd (cc)
+  behind folder bundle filter b f rest answered false (Ok done) of_bundle of_filter (inr (inl wrote)) e = inr (record {
+    b = b;
+    f = f;
+    bundle_has = of_bundle;
+    filter_has = of_filter;
+    answered = answered;
+    right = wrote.1;
+  })
+  behind folder bundle filter b f rest answered false (Ok done) of_bundle of_filter (inr (inr (inl undecided))) e =
+      let no : done ≡ false = undecided.0.told in absurd (cc)
+  behind folder bundle filter b f rest answered false (Ok done) of_bundle of_filter (inr (inr (inr lacks))) e =
+      let no = lacks.0 in absurd (cc)
+  behind folder bundle filter b f rest answered false (Err fault) of_bundle of_filter written e = absurd (no_error e)
+
+  behind_told : (folder : Option Folder) (bundle filter : List ℕ)
+      → AnswersBehind held failures folder old new native bundle filter (Ok true)
+      → AreRight folder native bundle filter ⊎ AreRightBehind folder native bundle filter
+  behind_told folder bundle filter (inl stops) = absurd (no_error stops.told)
+  behind_told folder bundle filter (inr (b, f, of_bundle, of_filter, by)) = go by.answer by.written by.told
+    where
+      go : (answer : Result Bool WriteFault) → CertifiesBehind held failures old new native b f answer → Ok true ≡ told_line answer
+          → AreRight folder native bundle filter ⊎ AreRightBehind folder native bundle filter
+      go answer (inl (rest, answered, whole, is, written)) e =
+          behind folder bundle filter b f rest answered whole answer of_bundle of_filter written e
+      go (Ok done) (inr lacks) e = let no = lacks.0 in absurd (cc)
+      go (Err fault) (inr lacks) e = absurd (no_error e)
 
 -- the answer to a script, where it is known what was read and written
 known : (native : Arch) (texts : List (List ℕ)) (left left' held held' : Option (List ℕ)) → HasAnswered native texts left left' held held'
@@ -70,13 +140,38 @@ known native texts left left' held held' h script before after el eh eh' =
 
 module _ {I O : Type 0} (left : I → Option (List ℕ)) (given : I → Failures) (held : O → Option (List ℕ)) (taken : O → Failures)
     (folder : Option Folder) (input input' : I) (out out' : O) where
-  pub run_is_answered : (native : Arch) (bundles : List (List ℕ))
+  run_told : (native : Arch) (bundles : List (List ℕ))
       → AnswersRun left given held taken folder input input' out out' native bundles (Ok true)
       → HasRun folder native bundles (left input) (held out) (held out')
-  run_is_answered native bundles (inl stops) = absurd (no_error stops.1.told)
-  run_is_answered native bundles (inr (texts, have, runs)) = record {
+  run_told native bundles (inl stops) = absurd (no_error stops.1.told)
+  run_told native bundles (inr (texts, have, runs)) = record {
     texts = texts;
     have = have;
     answered = known native texts (left input) (left input') (held out) (held out')
         (script_is_answered left given held taken input input' out out' native texts (Ok true) runs refl);
   }
+
+  -- the program did so as these commands
+  pub check_is_right : (machine bundle filter cert : List ℕ)
+      → Does left given held taken folder input input' out out' (Check, machine ∷ bundle ∷ filter ∷ cert ∷ []) (Ok true)
+      → AreRight folder (native_of machine) bundle filter
+  check_is_right machine bundle filter cert (inl none) = absurd (no_error none.stops)
+  check_is_right machine bundle filter cert (inr does) = check_told held taken out out' (native_of machine) folder bundle filter cert does.1
+
+  pub certify_is_right : (machine bundle filter : List ℕ)
+      → Does left given held taken folder input input' out out' (Certify, machine ∷ bundle ∷ filter ∷ []) (Ok true)
+      → AreRight folder (native_of machine) bundle filter
+  certify_is_right machine bundle filter (inl none) = absurd (no_error none.stops)
+  certify_is_right machine bundle filter (inr does) = certify_told held taken out out' (native_of machine) folder bundle filter does.1
+
+  pub behind_is_right : (machine bundle filter : List ℕ)
+      → Does left given held taken folder input input' out out' (Certify, machine ∷ bundle ∷ filter ∷ codes "runc" ∷ []) (Ok true)
+      → AreRight folder (native_of machine) bundle filter ⊎ AreRightBehind folder (native_of machine) bundle filter
+  behind_is_right machine bundle filter (inl none) = absurd (no_error none.stops)
+  behind_is_right machine bundle filter (inr does) = behind_told held taken out out' (native_of machine) folder bundle filter does.1
+
+  pub run_is_answered : (machine : List ℕ) (bundles : List (List ℕ))
+      → Does left given held taken folder input input' out out' (Run, machine ∷ bundles) (Ok true)
+      → HasRun folder (native_of machine) bundles (left input) (held out) (held out')
+  run_is_answered machine bundles (inl none) = absurd (no_error none.stops)
+  run_is_answered machine bundles (inr does) = run_told (native_of machine) bundles does

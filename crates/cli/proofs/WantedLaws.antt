@@ -6,12 +6,12 @@ use Rattle.std.specs.Prelude.{Bool, false, true, IfOk, None, Some, Option, Resul
 use Rattle.std.specs.declared.alloc.AllocError.{AllocError}
 use denote.Ref.{Bor}
 use Rattle.call_tables.specs.declared.arch.Arch.{Arch}
-use Rattle.explain.specs.declared.adapt.settling.choice.Choice.{Choice}
+use Rattle.engines.specs.declared.settling.choice.Choice.{Choice}
 use Rattle.cli.specs.Adapted.{AsksNarrow, IsMadeBy, IsMadeOfDraft, IsNarrowedOne, KeepsText, is_narrow}
 use Rattle.section.specs.Sections.{KeepsMeaning}
 use Rattle.section.specs.Texts.{IsBundleText}
 use Rattle.cli.specs.declared.adapting.Both.{Both}
-use Rattle.explain.specs.declared.told.Told.{Told}
+use Rattle.wording.specs.declared.told.Told.{Told}
 
 abbrev pub now_of : Bor (List ℕ) → List ℕ
 now_of word = word.now

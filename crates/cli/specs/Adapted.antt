@@ -5,13 +5,13 @@ use Rattle.std.specs.Str.{bytes_eq}
 use denote.Ref.{Bor}
 use Rattle.section.specs.Sections.{KeepsMeaning}
 use Rattle.section.specs.Texts.{IsBundleText}
-use Rattle.explain.specs.Adapted.{IsMade}
-use Rattle.explain.specs.Words.{AskFor}
-use Rattle.explain.specs.declared.adapt.words.Wanted.{Wanted}
+use Rattle.engines.specs.Adapted.{IsMade}
+use Rattle.engines.specs.Words.{AskFor}
+use Rattle.engines.specs.declared.words.Wanted.{Wanted}
 use Rattle.call_tables.specs.declared.arch.Arch.{Arch}
-use Rattle.explain.specs.declared.told.Told.{Told}
-use Rattle.explain.specs.Narrow.{IsTold}
-use Rattle.explain.specs.declared.adapt.settling.choice.Choice.{Choice}
+use Rattle.wording.specs.declared.told.Told.{Told}
+use Rattle.widths.specs.Narrow.{IsTold}
+use Rattle.engines.specs.declared.settling.choice.Choice.{Choice}
 
 -- one of the words is `narrow`
 abbrev pub AsksNarrow : List (Bor (List ℕ)) → Type 0

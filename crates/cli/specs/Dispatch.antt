@@ -3,26 +3,30 @@ use Rattle.std.specs.Prelude.{ℕ, ◌≡◌, ◌⊎◌, Bool, true, false, List
 use Rattle.std.specs.Prelude.{if◌then◌else◌, Option, Some, None, Result, Ok, Err}
 use Rattle.std.specs.Str.{bytes_eq}
 use Rattle.call_tables.specs.declared.arch.Arch.{Arch}
-use Rattle.cli.specs.Arguments.{Given}
-use Rattle.cli.specs.Arguments.Given.{Verdict, Check, Certify, CertifyBehind, CertifyAll, Export, Run, Explain, Record, Assemble}
-use Rattle.cli.specs.Arguments.Given.{Read, ReadRules, Annotate, Draw, Lint, Compare, CompareFilters, Adapt, Learn, Replay, Manual, Version}
+use Rattle.command_line.specs.Lines.{Given}
+use Rattle.command_line.specs.declared.prose.Command.{Command}
+use Rattle.command_line.specs.declared.prose.Command.TheVariants.{Verdict, Check, Certify, Export, Run, Explain, Record, Assemble}
+use Rattle.command_line.specs.declared.prose.Command.TheVariants.{Read, Annotate, Draw, Lint, Compare, Adapt, Learn}
+use Rattle.command_line.specs.declared.prose.Command.TheVariants.{Replay, Manual, Version}
+use Rattle.cli.specs.Parts.{Parts, form_of, parts_of}
 use Rattle.texts.specs.Failures.{Failures}
 use Rattle.texts.specs.Sink.{StopsAt as StopsWriting, Wrote}
 use Rattle.texts.specs.declared.streams.fault.WriteFault.{WriteFault}
 use Rattle.export.specs.declared.form.Form.{Form}
 use Rattle.explain.specs.Told.{IsAssembled, IsExplained, IsRecorded, IsVersion}
-use Rattle.explain.specs.declared.told.Told.{Told}
+use Rattle.wording.specs.declared.told.Told.{Told}
 use Rattle.explain.specs.Any.{IsExplained as IsExplainedAny}
-use Rattle.explain.specs.Shown.{IsAnnotated, IsDrawn}
-use Rattle.compare.specs.Linted.{IsLinted}
+use Rattle.explain.specs.Audit.{IsAudited}
+use Rattle.show.specs.Shown.{IsAnnotated, IsDrawn}
 use Rattle.compare.specs.Behind.{CertifiesBehind}
 use Rattle.compare.specs.Convictions.{TellsAll}
 use Rattle.compare.specs.Told.{IsCompared}
 use Rattle.compare.specs.FiltersTold.{IsTold}
-use Rattle.explain.specs.learn.Learned.{TellsLearned}
-use Rattle.explain.specs.learn.Wish.{AskFor}
-use Rattle.explain.specs.declared.learn.lists.Otherwise.{Otherwise}
-use Rattle.explain.specs.declared.learn.lists.Runtime.{Runtime}
+use Rattle.strace_logs.specs.Given.{GivesAll}
+use Rattle.strace_logs.specs.Learned.{TellsLearned}
+use Rattle.strace_logs.specs.Wish.{AskFor}
+use Rattle.strace_logs.specs.declared.lists.Otherwise.{Otherwise}
+use Rattle.strace_logs.specs.declared.lists.Runtime.{Runtime}
 use Rattle.maker.specs.Answer.{WritesAnswer}
 use Rattle.maker.specs.Certified.{Certifies}
 use Rattle.maker.specs.Exported.{Exports}
@@ -31,12 +35,13 @@ use Rattle.cli.specs.declared.stops.Stop.{Stop}
 use Rattle.cli.specs.declared.stops.Stop.TheVariants.{CannotRead, OutOfMemory, Usage, Write}
 use Rattle.cli.specs.Explained.{TellsBehind, TellsRecord}
 use Rattle.cli.specs.Adapted.{AskNothing, IsMadeAs}
-use Rattle.cli.specs.Read.{TellsRead, TellsRules}
+use Rattle.cli.specs.Read.{TellsLinted, TellsRead, TellsRules}
 use Rattle.cli.specs.Told.{IsManual, IsNoCommand, IsReplayed, NamesLogs, of_none, of_one, of_two, OfArguments, OfBundle, OfBundles}
 use Rattle.cli.specs.Written.{NamesForm, WritesMade}
 use Rattle.cli.specs.Files.{CannotBeRead, Folder, HasBundle, HasBytes, HasEnough}
+use Rattle.cli.specs.Input.{StopsInput}
 use Rattle.cli.specs.Running.{RunsBundles, told_line}
-use Rattle.cli.specs.Stop.{Reports, line_of, status_of}
+use Rattle.cli.specs.Stop.{ReportsOn, status_of}
 
 -- the program stops since the file of that name cannot be read, or for want of memory
 abbrev pub StopsAt : Option Folder → List ℕ → Stop → Type 0
@@ -84,26 +89,33 @@ exit_status (Ok true) = 0
 exit_status (Ok false) = 1
 exit_status (Err stop) = status_of stop
 
+-- the word behind the files of `certify`
+abbrev pub asks_runc : Parts → Bool
+asks_runc p = bytes_eq p.four (codes "runc")
+
+abbrev pub asks_all : Parts → Bool
+asks_all p = bytes_eq p.four (codes "all")
+
 -- `adapt` and `learn` tell on standard error what they changed or added, and `certify` with `runc` what the stub answers, also where it
 -- was done; no other command does
-abbrev pub TellsChanges : Given → Type 0
-TellsChanges (CertifyBehind native bundle filter) = Unit {0}
-TellsChanges (Adapt native config words) = Unit {0}
-TellsChanges (Learn native words) = Unit {0}
-TellsChanges other = ⊥
+abbrev pub TellsChanges : Command → Parts → Type 0
+TellsChanges Certify p = asks_runc p ≡ true
+TellsChanges Adapt p = Unit {0}
+TellsChanges Learn p = Unit {0}
+TellsChanges other p = ⊥
 
 -- `certify` also explains there the record by which its answer is no; no other command tells more of a no than of a yes
-abbrev pub TellsRefusal : Given → Type 0
-TellsRefusal (Certify native bundle filter) = Unit {0}
-TellsRefusal (CertifyAll native bundle filter) = Unit {0}
-TellsRefusal other = TellsChanges other
+abbrev pub TellsRefusal : Command → Parts → Type 0
+TellsRefusal Certify p = Unit {0}
+TellsRefusal other p = TellsChanges other p
 
--- What is on standard error: nothing but changes where the answer is yes, nothing but these and an explanation where it is no, and the line
--- that says why where the program stopped.
-abbrev pub Tells : {E : Type 0} → (E → Option (List ℕ)) → (E → Failures) → E → E → Given → Result Bool Stop → Type 0
-Tells held failures old new command (Ok true) = TellsChanges command ⊎ (new ≡ old)
-Tells held failures old new command (Ok false) = TellsRefusal command ⊎ (new ≡ old)
-Tells held failures old new command (Err stop) = Reports held failures old new (line_of stop)
+-- What is on standard error: nothing but changes where the answer is yes, nothing but these and an explanation where it is no, and the
+-- line that says why where the program stopped.
+abbrev pub Tells : {E : Type 0} → (E → Option (List ℕ)) → (E → Failures) → E → E → List (List ℕ) → Given → Result Bool Stop
+    → Type 0
+Tells held failures old new arguments given (Ok true) = TellsChanges given.0 (parts_of given.1) ⊎ (new ≡ old)
+Tells held failures old new arguments given (Ok false) = TellsRefusal given.0 (parts_of given.1) ⊎ (new ≡ old)
+Tells held failures old new arguments given (Err stop) = ReportsOn held failures old new arguments stop
 
 -- a file is not read: the program stops there, and nothing is written
 pub record StopsAtFile {O : Type 0} (folder : Option Folder) (old new : O) (names : List (List ℕ)) (result : Result Bool Stop)
@@ -157,7 +169,8 @@ module _ {O : Type 0} (held : O → Option (List ℕ)) (failures : O → Failure
   AnswersAll native bundle filter result =
       StopsAtFile folder old new (bundle ∷ filter ∷ []) result
       ⊎ ((b : List ℕ) × (f : List ℕ) × HasBundle native folder bundle b × HasBytes folder filter f
-      × AnswersBy (λ answer. Certifies held failures old new native b f answer ⊎ TellsAll held failures old new native b f answer) result)
+      × AnswersBy (λ answer. Certifies held failures old new native b f answer
+      ⊎ TellsAll held failures old new native b f answer) result)
 
   abbrev pub AnswersExport : Arch → List ℕ → Form → Result Bool Stop → Type 0
   AnswersExport native bundle form result =
@@ -170,6 +183,23 @@ module _ {O : Type 0} (held : O → Option (List ℕ)) (failures : O → Failure
       StopsAtFile folder old new names result
       ⊎ ((texts : List (List ℕ)) × (told : Told) × HaveBytes folder names texts × Is texts told
       × WritesTold held failures old new told result)
+
+  -- what `certify` writes, by whether `runc` stands behind the files, and `all`
+  abbrev pub AnswersCertified : Bool → Bool → Parts → Result Bool Stop → Type 0
+  AnswersCertified true all p result = AnswersBehind p.native p.two p.three result
+  AnswersCertified false true p result = AnswersAll p.native p.two p.three result
+  AnswersCertified false false p result = AnswersCertify p.native p.two p.three result
+
+  -- what `read` tells, by whether `rules` stands behind the file
+  abbrev pub AnswersRead : Bool → Parts → Result Bool Stop → Type 0
+  AnswersRead true p result = AnswersTold (p.two ∷ []) (of_one (OfBundle p.native (TellsRules p.native))) result
+  AnswersRead false p result = AnswersTold (p.two ∷ []) (of_one (OfBundle p.native (TellsRead p.native))) result
+
+  -- what `compare` tells, by whether `filters` stands behind the files
+  abbrev pub AnswersCompare : Bool → Parts → Result Bool Stop → Type 0
+  AnswersCompare true p result = AnswersTold (p.two ∷ p.three ∷ []) (of_two IsTold) result
+  AnswersCompare false p result = AnswersTold (p.two ∷ p.three ∷ [])
+      (of_two (OfBundles p.native (IsCompared (bytes_eq p.four (codes "atmost")) p.native))) result
 
   -- the program stops at words that ask for nothing, and nothing is written
   abbrev pub StopsAtWords : Result Bool Stop → Type 0
@@ -231,8 +261,7 @@ abbrev pub asks_audit : List (List ℕ) → Bool
 asks_audit (word ∷ []) = bytes_eq word (codes "audit")
 asks_audit call = false
 
--- What the program does as a command. `run` reads its input, and so does `explain` where it is asked about a kernel's log. Of what it
--- tells then nothing more is said.
+-- What the program does as a command. `run` reads its input, and so does `explain` where it is asked about a kernel's log.
 module _ {I O : Type 0} (left : I → Option (List ℕ)) (given : I → Failures) (held : O → Option (List ℕ)) (taken : O → Failures)
     (folder : Option Folder) (input input' : I) (out out' : O) where
   abbrev pub AnswersRun : Arch → List (List ℕ) → Result Bool Stop → Type 0
@@ -241,40 +270,59 @@ module _ {I O : Type 0} (left : I → Option (List ℕ)) (given : I → Failures
       ⊎ ((texts : List (List ℕ)) × HaveBundles native folder bundles texts
       × RunsBundles left given held taken input input' out out' native texts result)
 
+  -- the input is not read to its end, and nothing is written
+  pub record StopsAtInput (result : Result Bool Stop) : Type 0 where
+    pub stop : Stop
+    pub at : StopsInput (given input) (given input') stop
+    pub told : result ≡ Err stop
+    pub unwritten : out' ≡ out
+
+  -- what is told of a kernel's log: the bundle is read, and then the input to its end, which has the lines
+  abbrev pub AnswersAudit : Parts → Result Bool Stop → Type 0
+  AnswersAudit p result =
+      ((input' ≡ input) × StopsAtFile folder out out' (p.two ∷ []) result)
+      ⊎ (StopsAtInput result
+      ⊎ ((lines : List ℕ) × GivesAll (left input) (left input') lines
+      × AnswersTold held taken folder out out' (p.two ∷ [])
+      (of_one (OfBundle p.native (λ bundle. IsAudited p.native bundle lines))) result))
+
+  abbrev pub AnswersExplain : Parts → Result Bool Stop → Type 0
+  AnswersExplain p result =
+      ((asks_audit p.from_three ≡ true) × AnswersAudit p result)
+      ⊎ ((input' ≡ input) × AnswersTold held taken folder out out' (p.two ∷ [])
+      (of_one (OfBundle p.native (explained_as p.native p.from_three (any_call p.from_three)))) result)
+
+  -- what a command does, with its parts in the order of its row
+  abbrev pub DoesWith : Command → Parts → Result Bool Stop → Type 0
+  DoesWith Verdict p result = (input' ≡ input) × AnswersVerdict held taken folder out out' p.one p.two result
+  DoesWith Check p result = (input' ≡ input) × AnswersCheck held taken folder out out' p.native p.two p.three p.four result
+  DoesWith Certify p result = (input' ≡ input) × AnswersCertified held taken folder out out' (asks_runc p) (asks_all p) p result
+  DoesWith Export p result = (input' ≡ input) × AnswersExport held taken folder out out' p.native p.two (form_of p.three) result
+  DoesWith Run p result = AnswersRun p.native p.from_two result
+  DoesWith Explain p result = AnswersExplain p result
+  DoesWith Record p result =
+      (input' ≡ input) × AnswersTold held taken folder out out' [] (of_none (OfArguments (IsRecorded p.native) p.from_two)) result
+  DoesWith Assemble p result = (input' ≡ input) × AnswersTold held taken folder out out' (p.one ∷ []) (of_one IsAssembled) result
+  DoesWith Read p result = (input' ≡ input) × AnswersRead held taken folder out out' (bytes_eq p.three (codes "rules")) p result
+  DoesWith Annotate p result = (input' ≡ input) × AnswersTold held taken folder out out' (p.two ∷ []) (of_one IsAnnotated) result
+  DoesWith Draw p result = (input' ≡ input) × AnswersTold held taken folder out out' (p.two ∷ []) (of_one IsDrawn) result
+  DoesWith Lint p result =
+      (input' ≡ input) × AnswersTold held taken folder out out' (p.two ∷ []) (of_one (OfBundle p.native (TellsLinted p.native))) result
+  DoesWith Compare p result = (input' ≡ input) × AnswersCompare held taken folder out out' (bytes_eq p.four (codes "filters")) p result
+  DoesWith Adapt p result = (input' ≡ input) × AnswersAdapt held taken folder out out' p.native p.two p.from_three result
+  DoesWith Learn p result = (input' ≡ input) × AnswersLearn held taken folder out out' p.native p.from_two result
+  DoesWith Replay p result = (input' ≡ input) × AnswersReplay held taken folder out out' p.native p.two p.from_three result
+  DoesWith Manual p result = (input' ≡ input) × AnswersManual held taken folder out out' p.first result
+  DoesWith Version p result = (input' ≡ input) × AnswersTold held taken folder out out' [] (of_none IsVersion) result
+
+  -- memory is refused before the command is begun
+  pub record IsNotBegun (result : Result Bool Stop) : Type 0 where
+    pub stops : result ≡ Err OutOfMemory
+    pub unread : input' ≡ input
+    pub unwritten : out' ≡ out
+
   abbrev pub Does : Given → Result Bool Stop → Type 0
-  Does (Verdict filter rec) result = (input' ≡ input) × AnswersVerdict held taken folder out out' filter rec result
-  Does (Check native bundle filter cert) result =
-      (input' ≡ input) × AnswersCheck held taken folder out out' native bundle filter cert result
-  Does (Certify native bundle filter) result = (input' ≡ input) × AnswersCertify held taken folder out out' native bundle filter result
-  Does (CertifyBehind native bundle filter) result =
-      (input' ≡ input) × AnswersBehind held taken folder out out' native bundle filter result
-  Does (CertifyAll native bundle filter) result = (input' ≡ input) × AnswersAll held taken folder out out' native bundle filter result
-  Does (Export native bundle form) result = (input' ≡ input) × AnswersExport held taken folder out out' native bundle form result
-  Does (Run native bundles) result = AnswersRun native bundles result
-  Does (Explain native bundle call) result =
-      (asks_audit call ≡ true)
-      ⊎ ((input' ≡ input) × AnswersTold held taken folder out out' (bundle ∷ []) (of_one (OfBundle native (explained_as native call (any_call call)))) result)
-  Does (Record native call) result =
-      (input' ≡ input) × AnswersTold held taken folder out out' [] (of_none (OfArguments (IsRecorded native) call)) result
-  Does (Assemble text) result = (input' ≡ input) × AnswersTold held taken folder out out' (text ∷ []) (of_one IsAssembled) result
-  Does (Read native bundle) result =
-      (input' ≡ input) × AnswersTold held taken folder out out' (bundle ∷ []) (of_one (OfBundle native (TellsRead native))) result
-  Does (ReadRules native bundle) result =
-      (input' ≡ input) × AnswersTold held taken folder out out' (bundle ∷ []) (of_one (OfBundle native (TellsRules native))) result
-  Does (Annotate native filter) result =
-      (input' ≡ input) × AnswersTold held taken folder out out' (filter ∷ []) (of_one IsAnnotated) result
-  Does (Draw native filter) result = (input' ≡ input) × AnswersTold held taken folder out out' (filter ∷ []) (of_one IsDrawn) result
-  Does (Lint native bundle) result =
-      (input' ≡ input) × AnswersTold held taken folder out out' (bundle ∷ []) (of_one (OfBundle native (IsLinted native))) result
-  Does (Compare native old new at_most) result =
-      (input' ≡ input) × AnswersTold held taken folder out out' (old ∷ new ∷ []) (of_two (OfBundles native (IsCompared at_most native))) result
-  Does (CompareFilters native old new) result =
-      (input' ≡ input) × AnswersTold held taken folder out out' (old ∷ new ∷ []) (of_two IsTold) result
-  Does (Adapt native config words) result = (input' ≡ input) × AnswersAdapt held taken folder out out' native config words result
-  Does (Replay native bundle words) result = (input' ≡ input) × AnswersReplay held taken folder out out' native bundle words result
-  Does (Manual name) result = (input' ≡ input) × AnswersManual held taken folder out out' name result
-  Does Version result = (input' ≡ input) × AnswersTold held taken folder out out' [] (of_none IsVersion) result
-  Does (Learn native words) result = (input' ≡ input) × AnswersLearn held taken folder out out' native words result
+  Does given result = IsNotBegun result ⊎ DoesWith given.0 (parts_of given.1) result
 
 -- What `certify` tells where its answer is no: nothing on standard error, or on standard output the line of a call record and on
 -- standard error an explanation of this very record.
@@ -293,20 +341,29 @@ module _ {O E : Type 0} (held : O → Option (List ℕ)) (taken : O → Failures
       × TellsBehind held taken out out' shown dropped err err' native b f (Ok done)
   ExplainsBehind native bundle filter (Err stop) = Unit {0}
 
-  abbrev pub ExplainsWhy : Given → Result Bool Stop → Type 0
-  ExplainsWhy (Certify native bundle filter) result = ExplainsRecord native bundle result
-  ExplainsWhy (CertifyBehind native bundle filter) result = ExplainsBehind native bundle filter result
-  ExplainsWhy other result = Unit {0}
+  abbrev pub ExplainsCertified : Bool → Bool → Parts → Result Bool Stop → Type 0
+  ExplainsCertified true all p result = ExplainsBehind p.native p.two p.three result
+  ExplainsCertified false true p result = Unit {0}
+  ExplainsCertified false false p result = ExplainsRecord p.native p.two result
+
+  abbrev pub ExplainsBy : Command → Parts → Result Bool Stop → Type 0
+  ExplainsBy Certify p result = ExplainsCertified (asks_runc p) (asks_all p) p result
+  ExplainsBy other p result = Unit {0}
+
+  -- where the program stops, nothing is explained
+  abbrev pub ExplainsWhy : Command → Parts → Result Bool Stop → Type 0
+  ExplainsWhy command p (Ok done) = ExplainsBy command p (Ok done)
+  ExplainsWhy command p (Err stop) = Unit {0}
 
 -- The program did what a command asks for: its outcome, as the exit status and standard error tell it.
 pub record Answers {I O E : Type 0} (left : I → Option (List ℕ)) (given : I → Failures) (held : O → Option (List ℕ))
     (taken : O → Failures) (shown : E → Option (List ℕ)) (dropped : E → Failures) (folder : Option Folder)
-    (input input' : I) (out out' : O) (err err' : E) (command : Given) (status : ℕ) : Type 0 where
+    (input input' : I) (out out' : O) (err err' : E) (arguments : List (List ℕ)) (command : Given) (status : ℕ) : Type 0 where
   pub outcome : Result Bool Stop
   pub does : Does left given held taken folder input input' out out' command outcome
   pub ends : status ≡ exit_status outcome
-  pub tells : Tells shown dropped err err' command outcome
-  pub explained : ExplainsWhy held taken shown dropped folder out out' err err' command outcome
+  pub tells : Tells shown dropped err err' arguments command outcome
+  pub explained : ExplainsWhy held taken shown dropped folder out out' err err' command.0 (parts_of command.1) outcome
 
 -- the program stops at arguments that are no command: since they are none, or for want of memory
 abbrev pub IsMisuse : Result Bool Stop → Type 0
@@ -315,7 +372,7 @@ IsMisuse (Err OutOfMemory) = Unit {0}
 IsMisuse other = ⊥
 
 -- it ends as a fault of the command line, or of memory, and standard error says so
-abbrev pub TellsMisuse : {E : Type 0} → (E → Option (List ℕ)) → (E → Failures) → E → E → ℕ → Type 0
-TellsMisuse held failures old new status =
-    ((status ≡ 2) × Reports held failures old new (line_of Usage))
-    ⊎ ((status ≡ 3) × Reports held failures old new (line_of OutOfMemory))
+abbrev pub TellsMisuse : {E : Type 0} → (E → Option (List ℕ)) → (E → Failures) → E → E → List (List ℕ) → ℕ → Type 0
+TellsMisuse held failures old new arguments status =
+    ((status ≡ 2) × ReportsOn held failures old new arguments Usage)
+    ⊎ ((status ≡ 3) × ReportsOn held failures old new arguments OutOfMemory)

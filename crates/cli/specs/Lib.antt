@@ -11,6 +11,5 @@ pub mod Headline
 pub mod Statuses
 pub mod inner
 pub mod Read
-pub mod Arguments
-pub mod Manual
-pub mod Prose
+pub mod Input
+pub mod Parts

@@ -1,9 +1,11 @@
--- What `read` tells of a bundle.
+-- What `read` and `lint` tell of a bundle.
 use Rattle.std.specs.Prelude.{ℕ, ◌≡◌, ◌⊎◌, true, List, ◌++◌, codes}
 use Rattle.call_tables.specs.declared.arch.Arch.{Arch}
-use Rattle.explain.specs.Read.{IsReadOut}
-use Rattle.explain.specs.Told.{RefusesBundle, TellsText}
-use Rattle.explain.specs.declared.told.Told.{Told}
+use Rattle.compare.specs.Linted.{IsLinted}
+use Rattle.show.specs.Read.{IsReadOut}
+use Rattle.show.specs.Unread.{RefusesUnread}
+use Rattle.wording.specs.Told.{RefusesBundle, TellsText}
+use Rattle.wording.specs.declared.told.Told.{Told}
 use Rattle.rules_text.specs.Text.{IsTextOf}
 
 -- the line that may stand behind what a bundle means
@@ -21,6 +23,12 @@ pub record TellsRead (native : Arch) (bundle : List ℕ) (told : Told) : Type 0 
   pub inner : Told
   pub is_read : IsReadOut native bundle inner
   pub same : (told ≡ inner) ⊎ HasHint inner told
+
+-- what `lint` finds, and the lines of what is not read: it is done only if nothing is found, and all is read
+pub record TellsLinted (native : Arch) (bundle : List ℕ) (told : Told) : Type 0 where
+  pub inner : Told
+  pub is_linted : IsLinted native bundle inner
+  pub unread : RefusesUnread native bundle inner told
 
 -- it was done: the text of the profile that the bundle means
 pub record TellsProfile (native : Arch) (bundle : List ℕ) (told : Told) : Type 0 where

@@ -3,6 +3,8 @@ use Rattle.std.specs.Prelude.{ℕ, ◌≡◌, ◌++◌, List, Option, Some}
 use Rattle.call_tables.specs.declared.arch.Arch.{Arch}
 use Rattle.bpf_insn.specs.Bytes.{insns_of}
 use Rattle.profile.specs.Policy.{Policy}
+use Rattle.compare.specs.Behind.{MeansRight}
+use Rattle.compare.specs.declared.behind_runc.stub.calls.Calls.{Calls}
 use Rattle.cli.specs.Dispatch.{HaveBundles}
 use Rattle.cli.specs.Files.{Folder, HasBundle, HasBytes}
 use Rattle.cli.specs.Headline.{IsAnswerTo, IsRightFor}
@@ -16,8 +18,18 @@ pub record AreRight (folder : Option Folder) (native : Arch) (bundle filter : Li
   pub policy : Policy
   pub right : IsRightFor native b policy (insns_of f)
 
--- The files are taken as bundles; and where it is known what the input had and the output has, the script that the input had was answered by the
--- machine whose first judge for each container is its bundle's profile.
+-- The bytes of one file are taken as a bundle, and those of the other are a filter that is right for it, but for the calls that a stub in
+-- front of it answers. The bundle refuses these by its default, without a kill.
+pub record AreRightBehind (folder : Option Folder) (native : Arch) (bundle filter : List ℕ) : Type 0 where
+  pub b : List ℕ
+  pub f : List ℕ
+  pub bundle_has : HasBundle native folder bundle b
+  pub filter_has : HasBytes folder filter f
+  pub answered : List Calls
+  pub right : MeansRight native b f answered
+
+-- The files are taken as bundles. Where it is known what the input had and the output has, the script that the input had was answered by
+-- the machine whose first judge for each container is its bundle's profile.
 pub record HasRun (folder : Option Folder) (native : Arch) (bundles : List (List ℕ)) (input out out' : Option (List ℕ)) : Type 0 where
   pub texts : List (List ℕ)
   pub have : HaveBundles native folder bundles texts

@@ -1,6 +1,7 @@
 -- Why a run stopped, its exit status, and the line that says so.
-use Rattle.std.specs.Prelude.{ℕ, List, [], ◌∷◌, ◌++◌, Result, Option, codes}
+use Rattle.std.specs.Prelude.{ℕ, ◌≡◌, ◌⊎◌, List, [], ◌∷◌, ◌++◌, Result, Option, codes}
 use Rattle.std.specs.Fmt.{decimal}
+use Rattle.command_line.specs.Lines.{IsOurs}
 use Rattle.texts.specs.Lines.{line_feed}
 use Rattle.texts.specs.Failures.{Failures}
 use Rattle.texts.specs.Sink.{Writes}
@@ -8,8 +9,8 @@ use Rattle.texts.specs.declared.streams.fault.WriteFault.{WriteFault}
 use Rattle.texts.specs.declared.streams.fault.WriteFault.TheVariants as fault
 use Rattle.session.specs.declared.fault.ScriptFault.{ScriptFault}
 use Rattle.session.specs.declared.fault.ScriptFault.TheVariants as script
-use Rattle.cli.specs.declared.command_line.Misuse.{Misuse}
-use Rattle.cli.specs.declared.command_line.Misuse.TheVariants as misuse
+use Rattle.command_line.specs.declared.reading.Misuse.{Misuse}
+use Rattle.command_line.specs.declared.reading.Misuse.TheVariants as misuse
 use Rattle.cli.specs.declared.stops.Stop.{Stop}
 use Rattle.cli.specs.declared.stops.Stop.TheVariants.{Usage, CannotRead, Read, Write, OutOfMemory}
 
@@ -39,6 +40,18 @@ name_line name = codes "ccell: cannot read " ++ name ++ line_feed ∷ []
 -- the line was written, or a beginning of it where a write failed
 abbrev pub Reports : {S : Type 0} → (S → Option (List ℕ)) → (S → Failures) → S → S → List ℕ → Type 0
 Reports held failures old new line = (written : Result (Unit {0}) WriteFault) × Writes held failures old new line written
+
+-- nothing was written; or, if the first argument is the name of a command of our own, a text, as far as the sink took it
+abbrev pub MayAdvise : {S : Type 0} → (S → Option (List ℕ)) → (S → Failures) → S → S → List (List ℕ) → Type 0
+MayAdvise held failures old new arguments =
+    (new ≡ old) ⊎ (IsOurs arguments × ((text : List ℕ) × Reports held failures old new text))
+
+-- The line that says why the program stops was written, and behind it nothing, unless it stops at arguments.
+pub record ReportsOn {S : Type 0} (held : S → Option (List ℕ)) (failures : S → Failures) (old new : S) (arguments : List (List ℕ))
+    (stop : Stop) : Type 0 where
+  pub between : S
+  pub line : Reports held failures old between (line_of stop)
+  pub more : (new ≡ between) ⊎ ((stop ≡ Usage) × MayAdvise held failures between new arguments)
 
 abbrev pub stop_at_fault : WriteFault → Stop
 stop_at_fault (fault.Write out) = Write out

@@ -4,10 +4,12 @@ use Rattle.std.specs.List.{zip}
 use denote.Ref.{Bor}
 use Rattle.call_tables.specs.declared.arch.Arch.{Arch}
 use Rattle.section.specs.Texts.{IsBundleText}
-use Rattle.cli.specs.Manual.{IsPage, list_of, row_called, rows}
-use Rattle.explain.specs.Told.{TellsText}
-use Rattle.explain.specs.declared.told.Told.{Told}
-use Rattle.explain.specs.learn.Replayed.{TellsReplayed}
+use Rattle.command_line.specs.Lines.{row_called}
+use Rattle.command_line.specs.Manual.{IsPage, list_of}
+use Rattle.command_line.specs.Table.{rows}
+use Rattle.wording.specs.Told.{TellsText}
+use Rattle.wording.specs.declared.told.Told.{Told}
+use Rattle.strace_logs.specs.Replayed.{TellsReplayed}
 
 -- what is so of the text of one file, of two, and of none
 abbrev pub of_one : (List ℕ → Told → Type 0) → List (List ℕ) → Told → Type 0

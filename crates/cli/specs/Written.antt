@@ -4,7 +4,7 @@ use Rattle.call_tables.specs.declared.arch.Arch.{Arch}
 use Rattle.call_tables.specs.declared.arch.Family.{Family}
 use Rattle.call_tables.specs.declared.arch.Family.TheVariants.{Chosen, Whole}
 use Rattle.call_tables.specs.Arch.{family_of}
-use Rattle.explain.specs.declared.told.Told.{Told}
+use Rattle.wording.specs.declared.told.Told.{Told}
 use Rattle.section.specs.Sections.{IsSectionOf}
 
 -- `bundle` stands behind the others
@@ -22,7 +22,7 @@ IsItsSection native made told =
     ((made.done ≡ false) × (told ≡ made))
     ⊎ ((made.done ≡ true) × (told.done ≡ true → IsSectionOf native made.bytes.items told.bytes.items))
 
--- Where all calls of Linux are meant, a section is written. For the machines of the chosen lists, where no section is read, it is the bundle.
+-- Where all calls of Linux are meant, a section is written. For the machines of the chosen lists, where none is read, it is the bundle.
 abbrev pub IsWrittenFor : Family → Arch → Told → Told → Type 0
 IsWrittenFor Chosen native made told = told ≡ made
 IsWrittenFor Whole native made told = IsItsSection native made told

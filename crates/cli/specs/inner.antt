@@ -1,4 +1,1 @@
 pub mod Telling
-pub mod Grammar
-pub mod Found
-pub mod Misused

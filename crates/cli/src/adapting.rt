@@ -1,8 +1,8 @@
 //! What `ccell adapt` does.
 ghost use Rattle.std.specs.Prelude.{◌≡◌, ◌↔◌, ℕ, [], ◌∷◌, IfOk, IsTrue, List, Option, Some, false, filter, map, not, true};
 ghost use denote.Ref.{Bor};
-ghost use Rattle.explain.specs.declared.adapt.words.Wanted.{Wanted as TheWanted};
-ghost use Rattle.explain.specs.declared.adapt.settling.choice.Choice.{Choice as TheChoice};
+ghost use Rattle.engines.specs.declared.words.Wanted.{Wanted as TheWanted};
+ghost use Rattle.engines.specs.declared.settling.choice.Choice.{Choice as TheChoice};
 ghost use Rattle.cli.specs.Adapted.{AskToAdapt, AsksNarrow, IsMadeAs, IsMadeBy, IsMadeOfDraft, IsNarrowedOne, KeepsText, is_narrow};
 ghost use Rattle.cli.specs.Told.{OfArguments, of_one};
 ghost use Rattle.cli.specs.inner.Telling.{IsAdaptedOf, IsBundleOf, IsToldOf, told_in};
@@ -11,11 +11,11 @@ use crate::files::{Files, read};
 use crate::forms::{form_in, in_form};
 use crate::stops::Stop;
 use call_tables::Arch;
-use explain::Told;
-use explain::adapt::{Adapted, Wanted, adapt, wanted_of};
-use explain::narrow::{Narrowing, narrow};
+use engines::{Adapted, Wanted, adapt, wanted_of};
 use section::{bundle_text, keeps_meaning};
 use std::alloc::{AllocError, Global};
+use widths::{Narrowing, narrow};
+use wording::Told;
 
 /// What a command tells: on standard output, and on standard error.
 #[derive(Drop)]

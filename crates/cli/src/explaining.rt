@@ -3,41 +3,16 @@ ghost use Rattle.std.specs.Prelude.{◌≡◌, ◌⊎◌, ◌∷◌, [], IfOk, t
 ghost use Rattle.std.specs.Option.{option_map};
 ghost use Rattle.cli.specs.Dispatch as spec;
 ghost use Rattle.cli.specs.Told.{OfBundle, of_one};
-ghost use Rattle.cli.specs.inner.Telling.{IsToldOf, TellsText};
+ghost use Rattle.cli.specs.inner.Telling.{IsAuditOf, IsToldOf, TellsText};
 
+use crate::auditing::audited;
 use crate::files::{Files, read_bundle};
 use crate::stops::Stop;
 use call_tables::Arch;
-use explain::{Told, audit, explain_any};
+use explain::explain_any;
 use std::alloc::{AllocError, Global};
 use texts::Source;
-
-const ROOM: usize = 65536;
-
-// How many lines end in these bytes.
-fn line_feeds(bytes: &[u8]) -> u64 {
-    let mut count = 0u64;
-    for byte in bytes {
-        if *byte == b'\n' {
-            count = count.saturating_add(1);
-        }
-    }
-    count
-}
-
-// All bytes of a source.
-fn read_all<'a>(alloc: Global, input: &mut impl Source) -> Result<Vec<u8>, Stop<'a>> {
-    let mut text = Vec::new(alloc);
-    let mut buffer = vec![in alloc; 0u8; ROOM]?;
-    for _ in 0..u64::MAX {
-        match input.read(&mut buffer) {
-            Ok(0) => return Ok(text),
-            Ok(count) => text.extend_from_slice(&buffer[..count])?,
-            Err(_failed) => return Err(Stop::Read(line_feeds(&text).saturating_add(1))),
-        }
-    }
-    Ok(text)
-}
+use wording::Told;
 
 // Whether the lines of a kernel's log are asked about, in place of a call.
 fn asks_audit(call: &[&str]) -> bool
@@ -47,17 +22,6 @@ fn asks_audit(call: &[&str]) -> bool
         [word] => *word == "audit",
         _ => false,
     }
-}
-
-// Tells what a bundle says of the lines of a kernel's log.
-fn audited<'a>(
-    alloc: Global,
-    native: Arch,
-    bundle: &[u8],
-    input: &mut impl Source,
-) -> Result<Told, Stop<'a>> {
-    let lines = read_all(alloc, input)?;
-    Ok(audit(alloc, native, bundle, &lines)?)
 }
 
 // The call that is asked about whatever its arguments are.
@@ -104,7 +68,9 @@ pub fn explain<'a, F: Files, I: Source>(
     files: &mut F,
     input: &mut I,
 ) -> Result<Told, Stop<'a>>
-    ensures { (spec.asks_audit (map (λ c. c.now) call.now) ≡ true)
+    ensures audit { spec.asks_audit (map (λ c. c.now) call.now) ≡ true
+        → IsAuditOf I.left I.failures (F.folder files.old) input.old input.new native bundle.entry.now result }
+    ensures call { (spec.asks_audit (map (λ c. c.now) call.now) ≡ true)
         ⊎ ((input.new ≡ input.old) × IsToldOf (F.folder files.old) (bundle.entry.now ∷ [])
         (of_one (OfBundle native (spec.explained_as native (map (λ c. c.now) call.now) (spec.any_call (map (λ c. c.now) call.now))))) result) }
 {

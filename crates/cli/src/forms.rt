@@ -8,9 +8,9 @@ ghost use Rattle.cli.specs.inner.Telling.{IsInForm, told_in};
 use crate::adapting::Both;
 use crate::stops::Stop;
 use call_tables::{Arch, Family};
-use explain::Told;
 use section::section_of;
 use std::alloc::{AllocError, Global};
+use wording::Told;
 
 // Whether a word asks for the bundle.
 fn is_bundle(word: &str) -> bool

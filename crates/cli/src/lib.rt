@@ -4,8 +4,8 @@
 
 mod adapting;
 mod all;
+mod auditing;
 mod behind;
-mod command_line;
 mod comparing;
 mod explaining;
 mod fault;
@@ -14,6 +14,7 @@ mod forms;
 mod law;
 mod logs;
 mod manual;
+mod parts;
 mod program;
 mod run;
 mod showing;
@@ -21,7 +22,7 @@ mod stops;
 mod telling;
 
 pub use command_line::{
-    COMMANDS, Command, Entry, Form, Meaning, Misuse, Page, Part, form_named, read_arguments,
+    COMMANDS, Command, CommandLine, Count, Entry, Meaning, Misuse, Part, read_arguments,
 };
 pub use fault::FileFault;
 pub use files::Files;
@@ -30,6 +31,7 @@ pub use maker::{
     Answer, Finding, Slot, Unready, answer_to, certify_bundle, check_line, evidence_excludes,
     export_bundle, finding_of, findings_exclude, one_answer, verdict_line,
 };
+pub use parts::{Form, machines_are_called};
 pub use program::dispatch;
 pub use run::run_bundles;
 pub use session::{Bundle, Bundles, ScriptFault, run_script};

@@ -1,9 +1,9 @@
 //! What `ccell learn` and `ccell replay` do with logs.
 ghost use Rattle.std.specs.Prelude.{◌≡◌, ◌≢◌, ◌↔◌, [], ◌∷◌, ℕ, List, IfErr, IfOk, IsTrue, codes, length, map};
 ghost use Rattle.std.specs.List.{zip};
-ghost use Rattle.explain.specs.learn.Logged.{parts_of};
-ghost use Rattle.explain.specs.learn.Replayed.{TellsReplayed};
-ghost use Rattle.explain.specs.learn.Taken.{HaveShown};
+ghost use Rattle.strace_logs.specs.Logged.{parts_of};
+ghost use Rattle.strace_logs.specs.Replayed.{TellsReplayed};
+ghost use Rattle.strace_logs.specs.Taken.{HaveShown};
 ghost use Rattle.cli.specs.Dispatch.{StopsAtLog};
 ghost use Rattle.cli.specs.Files.{IsOpened};
 ghost use Rattle.cli.specs.Told.{IsReplayed, NamesLogs};
@@ -15,9 +15,9 @@ use crate::files::{Files, read_bundle, read_each};
 use crate::forms::{form_in, in_form};
 use crate::stops::Stop;
 use call_tables::Arch;
-use explain::Told;
-use explain::learn::{Keep, Learned, Log, LogFault, Shown, Wish, learn, replay, wish_of};
 use std::alloc::{AllocError, Global};
+use strace_logs::{Keep, Learned, Log, LogFault, Shown, Wish, learn, replay, wish_of};
+use wording::Told;
 
 // Logs by their names and their bytes.
 fn logs_of<'a>(

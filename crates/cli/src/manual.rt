@@ -6,14 +6,14 @@ ghost use Rattle.cli.specs.Told.{of_none};
 ghost use Rattle.cli.specs.inner.Telling.{IsManualOf, IsToldOf};
 
 use crate::stops::Stop;
-use explain::Told;
 use std::alloc::Global;
+use wording::Told;
 
 /// The commands, or the page of one.
 pub(crate) fn manual<'a>(alloc: Global, command: Option<&str>) -> Result<Told, Stop<'a>>
     ensures { (folder : Option Folder) → IsManualOf folder (option_map (λ n. n.now) command.entry) result }
 {
-    match crate::command_line::manual(alloc, command) {
+    match command_line::manual(alloc, command) {
         Ok(Some(text)) => Ok(Told {
             bytes: text.into_bytes(),
             done: true,

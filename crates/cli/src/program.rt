@@ -1,27 +1,30 @@
 //! The whole program, from the arguments after its name to its exit status.
-ghost use Rattle.std.specs.Prelude.{◌≡◌, ◌⊎◌, ◌≤◌, ℕ, List, Err, Ok, OnErr, false, true, map};
-ghost use Rattle.call_tables.specs.declared.arch.Arch.{Arch as TheArch};
-ghost use Rattle.cli.specs.Arguments.Given.{Check, Run};
-ghost use Rattle.cli.specs.Arguments.{Given, IsCommandLine, NoCommandLine, given};
-ghost use Rattle.cli.specs.Dispatch.{Answers, AnswersCertify, AnswersCheck, AnswersExport, AnswersRun, AnswersVerdict, Does, ExplainsRecord, ExplainsWhy, IsMisuse};
-ghost use Rattle.cli.specs.Dispatch.{TellsChanges, TellsMisuse, TellsRefusal};
-ghost use Rattle.cli.specs.Statuses.{AreRight, HasRun};
+ghost use Rattle.std.specs.Prelude.{◌≡◌, ◌⊎◌, ◌≤◌, ◌∷◌, [], ℕ, List, Err, Ok, OnErr, codes, false, true, map};
+ghost use Rattle.std.specs.Str.{bytes_eq};
+ghost use Rattle.command_line.specs.Lines.{Given, IsCommandLine, NoCommandLine, texts};
+ghost use Rattle.command_line.specs.declared.prose.Command.TheVariants as the;
+ghost use Rattle.cli.specs.Parts.{native_of, parts_of, read};
+ghost use Rattle.cli.specs.Dispatch.{Answers, AnswersCertified, AnswersCertify, AnswersCheck, AnswersCompare, AnswersExport, AnswersRead, AnswersRun, AnswersVerdict};
+ghost use Rattle.cli.specs.Dispatch.{Does, DoesWith, ExplainsBy, ExplainsCertified, ExplainsRecord, ExplainsWhy, IsMisuse, TellsChanges, TellsMisuse, TellsRefusal, asks_all, asks_runc};
+ghost use Rattle.cli.specs.Statuses.{AreRight, AreRightBehind, HasRun};
+ghost use Rattle.cli.specs.Stop.{MayAdvise, ReportsOn, status_of};
 ghost use Rattle.cli.specs.inner.Telling.{TellsOn, told_in};
 
 use crate::adapting::{Both, adapted};
 use crate::all::certify_all;
 use crate::behind::certify_behind;
-use crate::command_line::{Command, Form, read_arguments};
 use crate::comparing;
 use crate::explaining::explain;
 use crate::files::{Files, read_bundle, read_bundles, read_certificate, read_filter, read_record};
 use crate::logs::{learned, replayed};
 use crate::manual::{manual, version};
+use crate::parts::{Form, Parts, form_of, parts_of};
 use crate::run::run_bundles;
 use crate::showing::{annotated, drawn, read_out, rules};
 use crate::stops::{Stop, report};
 use crate::telling::{assembled, compared, filters_compared, linted, record, tell};
 use call_tables::Arch;
+use command_line::{Command, advice, read_arguments};
 use maker::{check_line, export_bundle, verdict_line};
 use std::alloc::Global;
 use texts::{Sink, Source, write_all};
@@ -134,90 +137,131 @@ fn tell_both<'a, O: Sink, E: Sink>(
     }
 }
 
+// Certifies a filter, as the word behind the files asks.
+fn certify_as<'a, F: Files, O: Sink, E: Sink>(
+    alloc: Global,
+    parts: Parts<'a>,
+    files: &mut F,
+    out: &mut O,
+    err: &mut E,
+) -> Result<bool, Stop<'a>>
+    ensures answers { AnswersCertified O.held O.failures (F.folder files.old) out.old out.new
+        (asks_runc (read parts.entry)) (asks_all (read parts.entry)) (read parts.entry) result }
+    ensures stopped { OnErr result (err.new ≡ err.old) }
+    ensures quiet { result ≡ Ok true → (asks_runc (read parts.entry) ≡ true) ⊎ (err.new ≡ err.old) }
+    ensures explained { ExplainsCertified O.held O.failures E.held E.failures (F.folder files.old) out.old out.new err.old err.new
+        (asks_runc (read parts.entry)) (asks_all (read parts.entry)) (read parts.entry) result }
+{
+    if parts.four == "runc" {
+        return certify_behind(alloc, parts.native, parts.two, parts.three, files, out, err);
+    }
+    if parts.four == "all" {
+        return certify_all(alloc, parts.native, parts.two, parts.three, files, out, err);
+    }
+    certify(alloc, parts.native, parts.two, parts.three, files, out, err)
+}
+
+// Tells what a bundle means, as the word behind the file asks.
+fn read_as<'a, F: Files, O: Sink>(
+    alloc: Global,
+    parts: Parts<'a>,
+    files: &mut F,
+    out: &mut O,
+) -> Result<bool, Stop<'a>>
+    ensures { AnswersRead O.held O.failures (F.folder files.old) out.old out.new (bytes_eq parts.entry.three.now (codes "rules")) (read parts.entry) result }
+{
+    if parts.three == "rules" {
+        return tell(rules(alloc, parts.native, parts.two, files), out);
+    }
+    tell(read_out(alloc, parts.native, parts.two, files), out)
+}
+
+// Compares two files, as the word behind them asks.
+fn compare_as<'a, F: Files, O: Sink>(
+    alloc: Global,
+    parts: Parts<'a>,
+    files: &mut F,
+    out: &mut O,
+) -> Result<bool, Stop<'a>>
+    ensures { AnswersCompare O.held O.failures (F.folder files.old) out.old out.new (bytes_eq parts.entry.four.now (codes "filters")) (read parts.entry) result }
+{
+    if parts.four == "filters" {
+        return tell(
+            filters_compared(alloc, parts.native, parts.two, parts.three, files),
+            out,
+        );
+    }
+    let at_most = parts.four == "atmost";
+    tell(
+        compared(alloc, parts.native, parts.two, parts.three, at_most, files),
+        out,
+    )
+}
+
 // Carries a command out: true where it answered a verdict or yes, wrote what was asked for or ran a script, false where it
 // refused.
 fn obey<'a, F: Files, I: Source, O: Sink, E: Sink>(
     alloc: Global,
-    command: Command<'a>,
+    command: Command,
+    parts: Parts<'a>,
     files: &mut F,
     input: &mut I,
     out: &mut O,
     err: &mut E,
 ) -> Result<bool, Stop<'a>>
-    ensures does { Does I.left I.failures O.held O.failures (F.folder files.old) input.old input.new out.old out.new
-        (given command.entry) result }
+    ensures does { DoesWith I.left I.failures O.held O.failures (F.folder files.old) input.old input.new out.old out.new
+        command (read parts.entry) result }
     // Nothing is told on standard error but of a filter that is convicted, of a stub, and of what was changed.
     ensures stopped { OnErr result (err.new ≡ err.old) }
-    ensures quiet { result ≡ Ok true → TellsChanges (given command.entry) ⊎ (err.new ≡ err.old) }
-    ensures refused { result ≡ Ok false → TellsRefusal (given command.entry) ⊎ (err.new ≡ err.old) }
+    ensures quiet { result ≡ Ok true → TellsChanges command (read parts.entry) ⊎ (err.new ≡ err.old) }
+    ensures refused { result ≡ Ok false → TellsRefusal command (read parts.entry) ⊎ (err.new ≡ err.old) }
     // Of a filter that is convicted the record is explained that was told.
-    ensures explained { ExplainsWhy O.held O.failures E.held E.failures (F.folder files.old) out.old out.new err.old err.new
-        (given command.entry) result }
+    ensures explained { ExplainsBy O.held O.failures E.held E.failures (F.folder files.old) out.old out.new err.old err.new
+        command (read parts.entry) result }
 {
+    let native = parts.native;
     match command {
-        Command::Verdict { filter, record } => verdict(alloc, filter, record, files, out),
-        Command::Check {
+        Command::Verdict => verdict(alloc, parts.one, parts.two, files, out),
+        Command::Check => check(
+            alloc,
             native,
-            bundle,
-            filter,
-            certificate,
-        } => check(alloc, native, bundle, filter, certificate, files, out),
-        Command::Certify {
-            native,
-            bundle,
-            filter,
-        } => certify(alloc, native, bundle, filter, files, out, err),
-        Command::CertifyBehind {
-            native,
-            bundle,
-            filter,
-        } => certify_behind(alloc, native, bundle, filter, files, out, err),
-        Command::CertifyAll {
-            native,
-            bundle,
-            filter,
-        } => certify_all(alloc, native, bundle, filter, files, out, err),
-        Command::Export {
-            native,
-            bundle,
-            form,
-        } => export(alloc, native, bundle, form, files, out),
-        Command::Run { native, bundles } => run(alloc, native, bundles, files, input, out),
-        Command::Explain {
-            native,
-            bundle,
-            call,
-        } => tell(explain(alloc, native, bundle, call, files, input), out),
-        Command::Read { native, bundle } => tell(read_out(alloc, native, bundle, files), out),
-        Command::ReadRules { native, bundle } => tell(rules(alloc, native, bundle, files), out),
-        Command::Record { native, call } => tell(record(alloc, native, call), out),
-        Command::Assemble { listing } => tell(assembled(alloc, listing, files), out),
-        Command::Annotate { native, filter } => tell(annotated(alloc, native, filter, files), out),
-        Command::Draw { native, filter } => tell(drawn(alloc, native, filter, files), out),
-        Command::Lint { native, bundle } => tell(linted(alloc, native, bundle, files), out),
-        Command::Compare {
-            native,
-            old,
-            new,
-            at_most,
-        } => tell(compared(alloc, native, old, new, at_most, files), out),
-        Command::CompareFilters { native, old, new } => {
-            tell(filters_compared(alloc, native, old, new, files), out)
+            parts.two,
+            parts.three,
+            parts.four,
+            files,
+            out,
+        ),
+        Command::Certify => certify_as(alloc, parts, files, out, err),
+        Command::Export => export(alloc, native, parts.two, form_of(parts.three), files, out),
+        Command::Run => run(alloc, native, parts.from_two, files, input, out),
+        Command::Explain => {
+            tell(
+                explain(alloc, native, parts.two, parts.from_three, files, input),
+                out,
+            )
         }
-        Command::Adapt {
-            native,
-            config,
-            words,
-        } => tell_both(adapted(alloc, native, config, words, files), out, err),
-        Command::Learn { native, words } => {
-            tell_both(learned(alloc, native, words, files), out, err)
+        Command::Read => read_as(alloc, parts, files, out),
+        Command::Record => tell(record(alloc, native, parts.from_two), out),
+        Command::Assemble => tell(assembled(alloc, parts.one, files), out),
+        Command::Annotate => tell(annotated(alloc, native, parts.two, files), out),
+        Command::Draw => tell(drawn(alloc, native, parts.two, files), out),
+        Command::Lint => tell(linted(alloc, native, parts.two, files), out),
+        Command::Compare => compare_as(alloc, parts, files, out),
+        Command::Adapt => {
+            tell_both(
+                adapted(alloc, native, parts.two, parts.from_three, files),
+                out,
+                err,
+            )
         }
-        Command::Replay {
-            native,
-            bundle,
-            words,
-        } => tell(replayed(alloc, native, bundle, words, files), out),
-        Command::Manual { command } => tell(manual(alloc, command), out),
+        Command::Learn => tell_both(learned(alloc, native, parts.from_two, files), out, err),
+        Command::Replay => {
+            tell(
+                replayed(alloc, native, parts.two, parts.from_three, files),
+                out,
+            )
+        }
+        Command::Manual => tell(manual(alloc, parts.first), out),
         Command::Version => tell(version(alloc), out),
     }
 }
@@ -234,20 +278,51 @@ fn carry_out<'a, F: Files, I: Source, O: Sink, E: Sink>(
     ensures does { (command : Given) → IsCommandLine arguments.entry.now command
         → Does I.left I.failures O.held O.failures (F.folder files.old) input.old input.new out.old out.new command result }
     ensures stopped { OnErr result (err.new ≡ err.old) }
-    ensures quiet { (command : Given) → IsCommandLine arguments.entry.now command → result ≡ Ok true → TellsChanges command ⊎ (err.new ≡ err.old) }
+    ensures quiet { (command : Given) → IsCommandLine arguments.entry.now command → result ≡ Ok true
+        → TellsChanges command.0 (parts_of command.1) ⊎ (err.new ≡ err.old) }
     ensures refused { (command : Given) → IsCommandLine arguments.entry.now command → result ≡ Ok false
-        → TellsRefusal command ⊎ (err.new ≡ err.old) }
+        → TellsRefusal command.0 (parts_of command.1) ⊎ (err.new ≡ err.old) }
     ensures explained { (command : Given) → IsCommandLine arguments.entry.now command
-        → ExplainsWhy O.held O.failures E.held E.failures (F.folder files.old) out.old out.new err.old err.new command result }
+        → ExplainsWhy O.held O.failures E.held E.failures (F.folder files.old) out.old out.new err.old err.new command.0 (parts_of command.1) result }
     ensures misuse { NoCommandLine arguments.entry.now → IsMisuse result }
     ensures unread { NoCommandLine arguments.entry.now → input.new ≡ input.old }
     ensures unwritten { NoCommandLine arguments.entry.now → out.new ≡ out.old }
     ensures unopened { NoCommandLine arguments.entry.now → files.new ≡ files.old }
 {
     match read_arguments(alloc, arguments) {
-        Ok(command) => obey(alloc, command, files, input, out, err),
+        Ok(line) => obey(
+            alloc,
+            line.command,
+            parts_of(line.parts),
+            files,
+            input,
+            out,
+            err,
+        ),
         Err(misuse) => Err(Stop::from(misuse)),
     }
+}
+
+// Writes a line about wrong arguments behind the name of a command of our own, as far as it goes.
+fn advise<E: Sink>(alloc: Global, arguments: &[&str], err: &mut E)
+    ensures { MayAdvise E.held E.failures err.old err.new (texts arguments.now) }
+{
+    if let Ok(Some(line)) = advice(alloc, arguments) {
+        let _ = write_all(line.as_bytes(), err);
+    }
+}
+
+// Writes the line that says why the program stops, and behind it what is wrong with the arguments, if they are; gives the exit status.
+fn report_on<E: Sink>(alloc: Global, arguments: &[&str], stop: &Stop<'_>, err: &mut E) -> u8
+    ensures status { result ≡ status_of stop.now }
+    ensures lines { ReportsOn E.held E.failures err.old err.new (texts arguments.now) stop.now }
+{
+    let status = report(stop, err);
+    match stop {
+        Stop::Usage => advise(alloc, arguments, err),
+        _ => {}
+    }
+    status
 }
 
 /// Runs the program on the arguments after its name, and gives the exit status: 0 done, 1 refused, 2 a fault of the
@@ -264,15 +339,21 @@ pub fn dispatch<F: Files, I: Source, O: Sink, E: Sink>(
     // Arguments that are a command are carried out, on the bytes of the files that they name.
     ensures answers { (command : Given) → IsCommandLine arguments.entry.now command
         → Answers I.left I.failures O.held O.failures E.held E.failures (F.folder files.old) input.old input.new out.old out.new
-        err.old err.new command result }
+        err.old err.new (texts arguments.entry.now) command result }
     // `check` ends with 0 only if the filter is right for the bundle, and `run` only if the script was answered.
-    ensures check { (native : TheArch) (bundle filter cert : List ℕ) → IsCommandLine arguments.entry.now (Check native bundle filter cert)
-        → result ≡ 0 → AreRight (F.folder files.old) native bundle filter }
-    ensures run { (native : TheArch) (bundles : List (List ℕ)) → IsCommandLine arguments.entry.now (Run native bundles) → result ≡ 0
-        → HasRun (F.folder files.old) native bundles (I.left input.old) (O.held out.old) (O.held out.new) }
+    ensures check { (machine bundle filter cert : List ℕ) → IsCommandLine arguments.entry.now (the.Check, machine ∷ bundle ∷ filter ∷ cert ∷ [])
+        → result ≡ 0 → AreRight (F.folder files.old) (native_of machine) bundle filter }
+    // So does `certify`; with `runc` the filter is right, or is so but for calls that a stub in front of it answers.
+    ensures certify { (machine bundle filter : List ℕ) → IsCommandLine arguments.entry.now (the.Certify, machine ∷ bundle ∷ filter ∷ [])
+        → result ≡ 0 → AreRight (F.folder files.old) (native_of machine) bundle filter }
+    ensures certify_runc { (machine bundle filter : List ℕ)
+        → IsCommandLine arguments.entry.now (the.Certify, machine ∷ bundle ∷ filter ∷ codes "runc" ∷ []) → result ≡ 0
+        → AreRight (F.folder files.old) (native_of machine) bundle filter ⊎ AreRightBehind (F.folder files.old) (native_of machine) bundle filter }
+    ensures run { (machine : List ℕ) (bundles : List (List ℕ)) → IsCommandLine arguments.entry.now (the.Run, machine ∷ bundles) → result ≡ 0
+        → HasRun (F.folder files.old) (native_of machine) bundles (I.left input.old) (O.held out.old) (O.held out.new) }
     // Arguments that are no command are a fault of the command line, unless the memory to read them is refused: no file and no input
     // is read, no output is written, and standard error says so.
-    ensures misuse { NoCommandLine arguments.entry.now → TellsMisuse E.held E.failures err.old err.new result }
+    ensures misuse { NoCommandLine arguments.entry.now → TellsMisuse E.held E.failures err.old err.new (texts arguments.entry.now) result }
     ensures unopened { NoCommandLine arguments.entry.now → files.new ≡ files.old }
     ensures unread { NoCommandLine arguments.entry.now → input.new ≡ input.old }
     ensures unwritten { NoCommandLine arguments.entry.now → out.new ≡ out.old }
@@ -280,6 +361,6 @@ pub fn dispatch<F: Files, I: Source, O: Sink, E: Sink>(
     match carry_out(alloc, arguments, files, input, out, err) {
         Ok(true) => 0,
         Ok(false) => 1,
-        Err(stop) => report(&stop, err),
+        Err(stop) => report_on(alloc, arguments, &stop, err),
     }
 }

@@ -1,8 +1,8 @@
 //! What `ccell read`, `ccell annotate` and `ccell draw` tell.
 ghost use Rattle.std.specs.Prelude.{◌≡◌, [], ◌∷◌, ℕ, List, IfOk, string_bytes, true};
 ghost use Rattle.call_tables.specs.declared.arch.Arch.{Arch as TheArch};
-ghost use Rattle.explain.specs.Read.{IsReadOut};
-ghost use Rattle.explain.specs.Shown.{IsAnnotated, IsDrawn};
+ghost use Rattle.show.specs.Read.{IsReadOut};
+ghost use Rattle.show.specs.Shown.{IsAnnotated, IsDrawn};
 ghost use Rattle.rules_text.specs.Text.{IsTextOf};
 ghost use Rattle.cli.specs.Read.{HasHint, TellsRead, TellsRules};
 ghost use Rattle.cli.specs.Told.{OfBundle, of_one};
@@ -11,9 +11,9 @@ ghost use Rattle.cli.specs.inner.Telling.{IsToldOf};
 use crate::files::{Files, read_bundle, read_filter};
 use crate::stops::Stop;
 use call_tables::Arch;
-use explain::{Told, refused_profile};
 use rules_text::bundle_text;
 use std::alloc::{AllocError, Global};
+use wording::{Told, refused_profile};
 
 /// The lines of a filter's listing, with what they mean.
 pub(crate) fn annotated<'a, F: Files>(
@@ -25,7 +25,7 @@ pub(crate) fn annotated<'a, F: Files>(
     ensures { IsToldOf (F.folder files.old) (filter.entry.now ∷ []) (of_one IsAnnotated) result }
 {
     match read_filter(alloc, files, filter) {
-        Ok(bytes) => match explain::annotated(alloc, native, &bytes) {
+        Ok(bytes) => match show::annotated(alloc, native, &bytes) {
             Ok(told) => Ok(told),
             Err(_no_memory) => Err(Stop::OutOfMemory),
         },
@@ -43,7 +43,7 @@ pub(crate) fn drawn<'a, F: Files>(
     ensures { IsToldOf (F.folder files.old) (filter.entry.now ∷ []) (of_one IsDrawn) result }
 {
     match read_filter(alloc, files, filter) {
-        Ok(bytes) => match explain::drawn(alloc, native, &bytes) {
+        Ok(bytes) => match show::drawn(alloc, native, &bytes) {
             Ok(told) => Ok(told),
             Err(_no_memory) => Err(Stop::OutOfMemory),
         },
@@ -81,7 +81,7 @@ fn hinted(alloc: Global, native: Arch, bundle: &[u8], told: Told) -> Result<Told
 fn described(alloc: Global, native: Arch, bundle: &[u8]) -> Result<Told, AllocError>
     ensures { IfOk result (TellsRead native bundle.now) }
 {
-    let told = explain::read_out(alloc, native, bundle)?;
+    let told = show::read_out(alloc, native, bundle)?;
     hinted(alloc, native, bundle, told)
 }
 

@@ -3,8 +3,8 @@ ghost use Rattle.std.specs.Prelude.{◌≡◌, IfSome};
 ghost use Rattle.cli.specs.Stop.{Reports, line_of, name_line, status_of};
 ghost use Rattle.cli.specs.declared.stops.Stop.TheVariants.{Read, Write};
 
-use crate::command_line::Misuse;
 use arrayvec::ArrayString;
+use command_line::Misuse;
 use session::ScriptFault;
 use std::alloc::AllocError;
 use std::fmt;

@@ -1,9 +1,9 @@
 //! Commands that tell: what the library tells of arguments and of files, and how it is written.
-ghost use Rattle.std.specs.Prelude.{Option, [], ◌∷◌, map};
+ghost use Rattle.std.specs.Prelude.{IfOk, Option, [], ◌∷◌, map};
 ghost use Rattle.compare.specs.Told.{IsCompared};
 ghost use Rattle.compare.specs.FiltersTold.{IsTold};
 ghost use Rattle.explain.specs.Told.{IsAssembled, IsRecorded};
-ghost use Rattle.compare.specs.Linted.{IsLinted};
+ghost use Rattle.cli.specs.Read.{TellsLinted};
 ghost use Rattle.cli.specs.Files.{Folder};
 ghost use Rattle.cli.specs.Told.{OfArguments, OfBundle, OfBundles, of_none, of_one, of_two};
 ghost use Rattle.cli.specs.inner.Telling.{IsToldOf, TellsOn};
@@ -11,9 +11,9 @@ ghost use Rattle.cli.specs.inner.Telling.{IsToldOf, TellsOn};
 use crate::files::{Files, read, read_bundle};
 use crate::stops::Stop;
 use call_tables::Arch;
-use explain::Told;
-use std::alloc::Global;
+use std::alloc::{AllocError, Global};
 use texts::{Sink, write_all};
+use wording::Told;
 
 /// Writes what is told.
 pub(crate) fn tell<'a, O: Sink>(told: Result<Told, Stop<'a>>, out: &mut O) -> Result<bool, Stop<'a>>
@@ -55,6 +55,14 @@ pub(crate) fn assembled<'a, F: Files>(
     }
 }
 
+// Which calls get past a bundle, and what stands in it and is not read.
+fn linted_text(alloc: Global, native: Arch, bundle: &[u8]) -> Result<Told, AllocError>
+    ensures { IfOk result (TellsLinted native bundle.now) }
+{
+    let told = compare::lint::lint(alloc, native, bundle)?;
+    show::refusing_unread(alloc, native, bundle, told)
+}
+
 /// Which calls get past a bundle by bits that the kernel does not read.
 pub(crate) fn linted<'a, F: Files>(
     alloc: Global,
@@ -62,10 +70,10 @@ pub(crate) fn linted<'a, F: Files>(
     bundle: &'a str,
     files: &mut F,
 ) -> Result<Told, Stop<'a>>
-    ensures { IsToldOf (F.folder files.old) (bundle.entry.now ∷ []) (of_one (OfBundle native (IsLinted native))) result }
+    ensures { IsToldOf (F.folder files.old) (bundle.entry.now ∷ []) (of_one (OfBundle native (TellsLinted native))) result }
 {
     match read_bundle(alloc, native, files, bundle) {
-        Ok(text) => match compare::lint::lint(alloc, native, &text) {
+        Ok(text) => match linted_text(alloc, native, &text) {
             Ok(told) => Ok(told),
             Err(_no_memory) => Err(Stop::OutOfMemory),
         },

@@ -1,7 +1,6 @@
 -- What is so of all records where no call is found on which two profiles differ.
 use Rattle.std.proofs.Common.{◌≡◌, ◌≢◌, ◌==◌, ℕ, ◌&&◌, Bool, true, false, not, List, inl, inr, refl, ◌∙◌, ap, sym, subst}
 use Rattle.std.proofs.lemmas.Bool.{cases_Bool, both_ways, not-true, not-false, eqb-true, eqb-false}
-use Rattle.call_record.specs.Record.{words}
 use Rattle.call_record.specs.Words.{IsRecord}
 use Rattle.call_record.specs.Verdict.{Through, is_through}
 use Rattle.profile.specs.Policy.{Policy, IsClear, Says}
@@ -9,14 +8,11 @@ use Rattle.profile.specs.Said.{said}
 use Rattle.profile.proofs.SaidLaws.{each_record_is_said_one_verdict}
 use Rattle.differ.specs.Direction.{tells}
 use Rattle.differ.specs.Everywhere.{AreLike}
-use Rattle.differ.specs.OnCall.{IsFound}
 use Rattle.differ.specs.declared.direction.Direction.TheVariants.{Any, More}
-use Rattle.differ.specs.declared.found.Found.{Found}
 use Rattle.compare.specs.Difference.{SayTheSame}
-use Rattle.compare.specs.NoMore.{AllowsNoMore, Exceeds}
-use Rattle.compare.specs.Sameness.{AreUnlikeOn}
+use Rattle.compare.specs.NoMore.{AllowsNoMore}
 
-through_too : (v w : ℕ) → tells More v w ≡ false → is_through w ≡ true → is_through v ≡ true
+pub through_too : (v w : ℕ) → tells More v w ≡ false → is_through w ≡ true → is_through v ≡ true
 through_too v w like through = elim (cases_Bool (is_through v)) [
   | inl yes_through ↦ yes_through
   | inr refused ↦ absurd (
@@ -28,25 +24,6 @@ pub like_allows : (new old : Policy) → IsClear old.rules → AreLike old new M
 like_allows new old clear like = λ r is (w, says, through).
     let one : Says old r (said old r) = (each_record_is_said_one_verdict old r (said old r) clear is).1 refl in
     (said old r, one, through_too (said old r) w (like r is (said old r) w one says) through)
-
-pub found_exceeds : (new old : Policy) (token nr : ℕ) (found : Found) → IsFound old new token nr More found
-    → Exceeds new old (words found.call) found.second found.first
-found_exceeds new old token nr found f = record {
-  is_record = f.of_call.is_record;
-  says_new = f.says_second;
-  through = elim (cases_Bool (is_through found.second)) [
-    | inl yes_through ↦ yes_through
-    | inr refused ↦ absurd (both_ways (tells More found.first found.second) (ap (λ b. b && not (is_through found.first)) refused) f.unlike)
-  ];
-  says_old = f.says_first;
-  refused = λ through.
-      let both : tells More found.first found.second ≡ (is_through found.second && false) =
-      ap (λ b. is_through found.second && not b) through in
-      elim (cases_Bool (is_through found.second)) [
-        | inl one ↦ both_ways (tells More found.first found.second) (both ∙ ap (λ b. b && false) one) f.unlike
-        | inr other ↦ both_ways (tells More found.first found.second) (both ∙ ap (λ b. b && false) other) f.unlike
-      ];
-}
 
 -- of one profile's verdict the other one says the same
 said_too : (p q : Policy) → IsClear q.rules → AreLike p q Any → (r : List ℕ) → IsRecord r → (v : ℕ) → Says p r v → Says q r v
@@ -63,11 +40,3 @@ turned p q clear like r is v says =
 
 pub like_same : (p q : Policy) → IsClear p.rules → IsClear q.rules → AreLike p q Any → SayTheSame p q
 like_same p q clear-p clear-q like = λ r is v. (said_too p q clear-q like r is v, turned p q clear-p like r is v)
-
-pub found_unlike : (p q : Policy) (token nr : ℕ) (found : Found) → IsFound p q token nr Any found
-    → AreUnlikeOn p q (words found.call) found.first found.second
-found_unlike p q token nr found f = record {
-  says_first = f.says_first;
-  says_second = f.says_second;
-  unlike = eqb-false found.first found.second (not-true (found.first == found.second) f.unlike);
-}

@@ -2,8 +2,8 @@
 use Rattle.std.proofs.Common.{ℕ, ◌++◌, List, inl, inr}
 use Rattle.std.specs.Prelude.{◌≢◌, IfOk, IfSome, Result, Ok, Err, codes}
 use Rattle.call_tables.specs.declared.arch.Arch.{Arch}
-use Rattle.explain.specs.Told.{TellsLine}
-use Rattle.explain.specs.declared.told.Told.{Told}
+use Rattle.wording.specs.Told.{TellsLine}
+use Rattle.wording.specs.declared.told.Told.{Told}
 use Rattle.profile_json.specs.Breaks.{Breaks}
 use Rattle.profile_json.specs.Fault.{fault_of, text_of}
 use Rattle.profile_json.specs.declared.fault.ProfileError.{ProfileError}

@@ -1,58 +1,48 @@
--- What gets past a profile, by what is said of a call and of the same with the bits at 0 that are not read.
-use Rattle.std.proofs.Common.{◌≡◌, ℕ, length, true, false, List, [], ◌∷◌, ◌++◌, ◌∙◌, refl, subst, sym}
-use Rattle.std.proofs.lemmas.List.Elements.{All-head, All-push}
-use Rattle.std.specs.List.{All}
-use Rattle.call_record.specs.Record.{words}
-use Rattle.call_record.specs.Verdict.{Through, is_through}
-use Rattle.call_record.specs.Words.{IsRecord}
-use Rattle.explain.specs.Alike.{ClearedIsAlike, IsCleared, IsNarrowed}
-use Rattle.compare.specs.NoMore.{Exceeds}
-use Rattle.profile.specs.Policy.{Policy, Says}
-use Rattle.compare.specs.Past.{GetsPast, NothingGetsPast}
-use Rattle.compare.specs.declared.lint.past.Past.{Past}
-
--- what a profile lets through and its narrowed one refuses gets past
-pub exceeding_gets_past : (p q : Policy) (past : Past) → IsNarrowed p q → Exceeds p q (words past.call) past.word past.cleared_word
-    → IsCleared (words past.call) (words past.cleared) → IsRecord (words past.cleared) → ClearedIsAlike → GetsPast p past
-exceeding_gets_past p q past is exceeds cleared rec alike = record {
-  cleared = cleared;
-  alike = alike (words past.call) (words past.cleared) cleared;
-  says = exceeds.says_new;
-  through = exceeds.through;
-  says_cleared = (is.says (words past.call) (words past.cleared) exceeds.is_record rec cleared past.cleared_word).0 exceeds.says_old;
-  refused = exceeds.refused;
-}
-
-true_false : true ≡ false → ⊥
-true_false e = cc
-
--- a verdict that is seen to refuse does not let through
-pub not_through : (v : ℕ) → is_through v ≡ false → Through v → ⊥
-not_through v refused through = true_false (sym through ∙ refused)
-
--- a call that is let through gets past where the same with the bits at 0 is refused
-pub refused_gets_past : (p : Policy) (past : Past) → IsCleared (words past.call) (words past.cleared) → ClearedIsAlike
-    → Says p (words past.call) past.word → is_through past.word ≡ true
-    → Says p (words past.cleared) past.cleared_word → is_through past.cleared_word ≡ false → GetsPast p past
-refused_gets_past p past cleared alike says through says_cleared refused = record {
-  cleared = cleared;
-  alike = alike (words past.call) (words past.cleared) cleared;
-  says = says;
-  through = through;
-  says_cleared = says_cleared;
-  refused = not_through past.cleared_word refused;
-}
-
--- one more call that gets past
-pub one_more_gets_past : (p : Policy) (list more : List Past) (past : Past) → more ≡ list ++ past ∷ [] → GetsPast p past
-    → All (GetsPast p) list → All (GetsPast p) more
-one_more_gets_past p list more past is gets all = subst (All (GetsPast p)) (sym is) (All-push (GetsPast p) list past all gets)
+-- What gets past a profile, as lines tell it.
+use Rattle.std.proofs.Common.{◌≡◌, ◌≢◌, ℕ, inl, inr, true, false, List, [], ◌∷◌, refl, ap, ◌∙◌, sym}
+use Rattle.std.proofs.lemmas.Bool.{both_ways, eq-eqb}
+use Rattle.std.proofs.lemmas.List.Elements.{All-head}
+use Rattle.std.specs.List.{All, list_any}
+use Rattle.call_tables.specs.declared.arch.Family.{Family}
+use Rattle.differ.specs.declared.named.Call.{Call}
+use Rattle.differ.specs.inner.Named.{is_named}
+use Rattle.profile.specs.Policy.{Policy}
+use Rattle.unread_bits.specs.Past.{AreAllPast, GetsPast}
+use Rattle.unread_bits.specs.declared.calls.AllPast.{AllPast}
+use Rattle.unread_bits.specs.declared.past.Past.{Past}
+use Rattle.compare.specs.Complete.{is_crowded}
+use Rattle.compare.specs.Past.{ArePast, IsUndecided}
+use Rattle.compare.specs.declared.search.Crowded.{Crowded}
 
 -- one of some calls
-pub some_gets_past : (p : Policy) (list : List Past) → All (GetsPast p) list → ¬ (length list ≡ 0) → (past : Past) × GetsPast p past
+pub some_gets_past : (p : Policy) (list : List Past) → All (GetsPast p) list → (list ≢ []) → (past : Past) × GetsPast p past
 some_gets_past p [] all some = absurd (some refl)
 some_gets_past p (x ∷ xs) all some = (x, All-head (GetsPast p) x xs all)
 
--- nothing gets past a profile that is its own narrowed one
-pub own_is_no_more : (p : Policy) → IsNarrowed p p → NothingGetsPast p
-own_is_no_more p is = record { narrowed = p; is = is; no_more = λ r rec through. through }
+-- the crowded calls are named
+abbrev pub AreNamed : List Call → List Crowded → Type 0
+AreNamed calls crowded = (t n : ℕ) → is_named calls t n ≡ true → list_any (is_crowded t n) crowded ≡ true
+
+self_named : (x : Call) (xs : List Call) → is_named (x ∷ xs) x.token x.nr ≡ true
+self_named x xs = rw (eq-eqb x.token x.token refl, eq-eqb x.nr x.nr refl) refl
+
+-- where none is named there is none
+none_named : (calls : List Call) (crowded : List Crowded) → AreNamed calls crowded → crowded ≡ [] → calls ≡ []
+none_named [] crowded named none = refl
+none_named (x ∷ xs) crowded named none =
+    absurd (both_ways false refl (ap (list_any (is_crowded x.token x.nr)) (sym none) ∙ named x.token x.nr (self_named x xs)))
+
+pub past_are : (family : Family) (p : Policy) (all : AllPast) (crowded : List Crowded) → AreAllPast p all
+    → All (IsUndecided family p) crowded → AreNamed all.crowded.items crowded → ArePast family p all.found.items crowded
+past_are family p all crowded is undecided named = record {
+  past = is.told.found;
+  are_crowded = undecided;
+  complete = λ t n on. elim (is.complete t n on) [
+    | inl none ↦ inl none
+    | inr other ↦ elim other [
+      | inl told ↦ inr (inl told)
+      | inr more ↦ inr (inr (named t n more))
+    ]
+  ];
+  others = λ none free. is.others none (none_named all.crowded.items crowded named free);
+}

@@ -2,7 +2,9 @@
 use Rattle.std.proofs.Common.{◌≡◌, ℕ, Bool, List, inl, inr}
 use Rattle.std.specs.Prelude.{IfOk, IfSome, Result, Ok, Err}
 use Rattle.call_tables.specs.declared.arch.Arch.{Arch}
-use Rattle.explain.specs.declared.told.Told.{Told}
+use Rattle.call_tables.specs.declared.arch.Family.{Family}
+use Rattle.call_tables.specs.Arch.{family_of}
+use Rattle.wording.specs.declared.told.Told.{Told}
 use Rattle.profile.specs.Policy.{Policy}
 use Rattle.profile_json.specs.Breaks.{Breaks}
 use Rattle.profile_json.specs.Fault.{fault_of}
@@ -27,13 +29,14 @@ module _ {E : Type 0} (atmost : Bool) (native : Arch) (first second : List ℕ) 
 
   -- both mean profiles, which are compared
   pub both_compared : (one other : Policy) (r : Result Told E) → IsBundle native first one → IsBundle native second other
-      → IfOk r (AreTold atmost one other) → IfOk r (IsCompared atmost native first second)
+      → IfOk r (AreTold atmost (family_of native) one other) → IfOk r (IsCompared atmost native first second)
   both_compared one other (Ok told) means_one means_other h =
       inr (inr (record { one = one; other = other; means_one = means_one; means_other = means_other; compared = h }))
   both_compared one other (Err x) means_one means_other h = h
 
 -- how profiles compare is told
-pub are_told : {E : Type 0} (atmost : Bool) (p q : Policy) (comparison : Comparison) (r : Result Told E) → IsComparison p q comparison
-    → (AreEqual p q → comparison ≡ Same) → IfOk r (TellsComparison atmost comparison) → IfOk r (AreTold atmost p q)
-are_told atmost p q comparison (Ok told) is equal h = record { comparison = comparison; is = is; equal = equal; tells = h }
-are_told atmost p q comparison (Err x) is equal h = h
+pub are_told : {E : Type 0} (atmost : Bool) (family : Family) (p q : Policy) (comparison : Comparison) (r : Result Told E)
+    → IsComparison family p q comparison
+    → (AreEqual p q → comparison ≡ Same) → IfOk r (TellsComparison atmost comparison) → IfOk r (AreTold atmost family p q)
+are_told atmost family p q comparison (Ok told) is equal h = record { comparison = comparison; is = is; equal = equal; tells = h }
+are_told atmost family p q comparison (Err x) is equal h = h

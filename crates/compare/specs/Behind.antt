@@ -1,9 +1,12 @@
 -- A filter behind the stub that runc puts in front of it, and what is judged of the two.
-use Rattle.std.specs.Prelude.{ℕ, ◌≡◌, ◌≢◌, ◌⊎◌, ⊤, Bool, true, false, List, [], Option, None, Result, Ok, Err}
+use Rattle.std.specs.Prelude.{ℕ, ◌≡◌, ◌≢◌, ◌⊎◌, ⊤, Bool, true, false, List, [], ◌∷◌, Option, None, Result, Ok, Err}
+use Rattle.std.specs.List.{All}
+use Rattle.call_record.specs.Record.{words}
 use Rattle.call_tables.specs.declared.arch.Arch.{Arch}
 use Rattle.bpf_insn.specs.Bytes.{insns_of, view_fault}
 use Rattle.kernel_check.specs.Accepted.{IsAccepted}
 use Rattle.maker.specs.evidence.Conviction.{IsCertificate}
+use Rattle.maker.specs.declared.evidence.evidence.Conviction.{Conviction}
 use Rattle.maker.specs.declared.evidence.evidence.Evidence.{Evidence}
 use Rattle.maker.specs.Certified.{Certifies, IsJudgement, WritesCertificate, WritesConviction, WritesOpen}
 use Rattle.maker.specs.Exported.{LacksMemory}
@@ -14,7 +17,8 @@ use Rattle.texts.specs.declared.streams.fault.WriteFault.{WriteFault}
 use Rattle.profile.specs.Policy.{Policy}
 use Rattle.compare.specs.declared.behind_runc.stub.calls.Calls.{Calls}
 use Rattle.compare.specs.Spared.{IsRightBehind, Spares}
-use Rattle.compare.specs.Stub.{IsStub}
+use Rattle.compare.specs.Convictions.{AreFound, WritesLines}
+use Rattle.compare.specs.Stub.{IsAnswered, IsStub}
 
 -- the bytes are a program that the kernel accepts
 pub record AreAccepted (filter : List ℕ) : Type 0 where
@@ -77,4 +81,34 @@ abbrev pub CertifiesBehind : {S : Type 0} → (S → Option (List ℕ)) → (S �
 CertifiesBehind held failures old new native bundle filter result =
     ((rest : List ℕ) × (answered : List Calls) × (whole : Bool) × IsBehind filter rest answered
     × WritesBehind held failures old new native bundle filter rest answered whole result)
+    ⊎ LacksMemory old new result
+
+-- ---- all records behind the stub
+
+-- the stub does not answer its record
+abbrev pub IsNotAnswered : List Calls → Conviction → Type 0
+IsNotAnswered answered found = IsAnswered answered (words found.call) → ⊥
+
+-- What was found of a filter behind a stub: the record that was found first, and then further ones. Each convicts the whole filter. Where
+-- the rest is asked about, the stub answers none of the further ones.
+pub record AreFoundBehind (native : Arch) (bundle filter : List ℕ) (answered : List Calls) (whole : Bool) (found : Conviction)
+    (all : List Conviction) : Type 0 where
+  pub are : AreFound native bundle filter found all
+  pub passed : whole ≡ false → All (IsNotAnswered answered) are.further
+
+-- what was written are the lines of such records, one at least
+pub record WritesAllBehind {S : Type 0} (held : S → Option (List ℕ)) (failures : S → Failures) (old new : S) (native : Arch)
+    (bundle filter : List ℕ) (answered : List Calls) (whole : Bool) (result : Result Bool WriteFault) : Type 0 where
+  pub found : Conviction
+  pub all : List Conviction
+  pub are : AreFoundBehind native bundle filter answered whole found all
+  pub written : WritesLines held failures old new all result
+
+-- what `ccell certify` with `runc all` behind the filter writes: what it writes with `runc`, or all records that are found
+abbrev pub CertifiesAllBehind : {S : Type 0} → (S → Option (List ℕ)) → (S → Failures) → S → S → Arch → List ℕ → List ℕ
+    → Result Bool WriteFault → Type 0
+CertifiesAllBehind held failures old new native bundle filter result =
+    ((rest : List ℕ) × (answered : List Calls) × (whole : Bool) × IsBehind filter rest answered
+    × (WritesBehind held failures old new native bundle filter rest answered whole result
+    ⊎ WritesAllBehind held failures old new native bundle filter answered whole result))
     ⊎ LacksMemory old new result

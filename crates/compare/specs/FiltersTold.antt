@@ -10,7 +10,7 @@ use Rattle.bpf_insn.specs.Fault.{text_of as fault_text}
 use Rattle.kernel_check.specs.declared.fault.Refused.{Refused}
 use Rattle.kernel_check.specs.Accepted.{IsRefusal}
 use Rattle.kernel_check.specs.Fault.{text_of as refusal_text}
-use Rattle.explain.specs.declared.told.Told.{Told}
+use Rattle.wording.specs.declared.told.Told.{Told}
 use Rattle.compare.specs.Outcome.{line_of}
 use Rattle.compare.specs.declared.change.Change.{Change}
 use Rattle.compare.specs.Differ.{AnswerUnlike}

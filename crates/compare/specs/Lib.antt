@@ -1,6 +1,6 @@
 pub mod Difference
 pub mod Equal
-pub mod Sameness
+pub mod Complete
 pub mod Order
 pub mod Outcome
 pub mod Told
@@ -8,9 +8,9 @@ pub mod Differ
 pub mod FiltersTold
 pub mod Convictions
 pub mod NoMore
-pub mod Decided
 pub mod inner
 pub mod Past
+pub mod LintTold
 pub mod Linted
 pub mod Behind
 pub mod StubTold

@@ -1,27 +1,31 @@
 -- What `ccell lint` tells of a bundle.
 use Rattle.std.specs.Prelude.{◌≡◌, ◌⊎◌, ℕ, Bool, true, false, List}
 use Rattle.call_tables.specs.declared.arch.Arch.{Arch}
-use Rattle.explain.specs.Told.{RefusesBundle}
-use Rattle.explain.specs.declared.told.Told.{Told}
-use Rattle.explain.specs.Narrow.{IsBundle}
+use Rattle.call_tables.specs.Arch.{family_of}
+use Rattle.wording.specs.Told.{RefusesBundle}
+use Rattle.wording.specs.declared.told.Told.{Told}
+use Rattle.widths.specs.Narrow.{IsBundle}
 use Rattle.profile.specs.Policy.{Policy}
-use Rattle.compare.specs.Past.{GetsPast, IsFinding}
+use Rattle.compare.specs.LintTold.{TellsFound}
+use Rattle.compare.specs.Past.{IsFinding}
+use Rattle.unread_bits.specs.Past.{GetsPast}
 use Rattle.compare.specs.declared.lint.past.Finding.{Finding}
-use Rattle.compare.specs.declared.lint.past.Past.{Past}
+use Rattle.unread_bits.specs.declared.past.Past.{Past}
 use Rattle.compare.specs.declared.lint.past.Finding.TheVariants.{Nothing, GetPast, Undecided}
 
 abbrev pub is_nothing : Finding → Bool
 is_nothing Nothing = true
 is_nothing (GetPast list) = false
-is_nothing (Undecided size) = false
+is_nothing (Undecided list crowded) = false
 
--- what is found of its profile is so, and it is done where nothing is found
+-- what is found of its profile is so, and told, and it is done where nothing is found
 pub record IsJudged (native : Arch) (bundle : List ℕ) (told : Told) : Type 0 where
   pub profile : Policy
   pub means : IsBundle native bundle profile
   pub found : Finding
-  pub is : IsFinding profile found
+  pub is : IsFinding (family_of native) profile found
   pub done : told.done ≡ is_nothing found
+  pub text : TellsFound native bundle found told.bytes.items
 
 abbrev pub IsLinted : Arch → List ℕ → Told → Type 0
 IsLinted native bundle told = RefusesBundle native bundle told ⊎ IsJudged native bundle told

@@ -1,41 +1,32 @@
 -- How two profiles compare, and the text that tells it.
-use Rattle.std.specs.Prelude.{ℕ, suc, ◌==◌, ◌||◌, not, Bool, true, false, if◌then◌else◌, List, [], ◌∷◌, ◌++◌}
+use Rattle.std.specs.Prelude.{ℕ, suc, ◌==◌, ◌≢◌, ◌||◌, not, Bool, true, false, if◌then◌else◌, List, [], ◌∷◌, ◌++◌}
 use Rattle.std.specs.Prelude.{Option, Some, None, codes}
 use Rattle.std.specs.Fmt.{decimal}
-use Rattle.std.specs.List.{All, flat_map}
+use Rattle.std.specs.List.{flat_map}
 use Rattle.texts.specs.Lines.{line_feed}
 use Rattle.call_tables.specs.declared.arch.Arch.{Arch}
-use Rattle.call_tables.specs.Arch.{table_of, machine_name}
-use Rattle.call_tables.specs.Table.{name_in}
-use Rattle.explain.specs.Phrases.{action_text}
-use Rattle.compare.specs.declared.order.decided.Size.{Size}
-use Rattle.compare.specs.declared.order.decided.Size.TheVariants.{TooLong, TooLarge}
+use Rattle.call_tables.specs.declared.arch.Family.{Family}
+use Rattle.call_tables.specs.Arch.{machine_name}
+use Rattle.wording.specs.Phrases.{action_text}
 use Rattle.profile.specs.Policy.{Policy}
-use Rattle.compare.specs.Difference.{IsChange, SayTheSame}
+use Rattle.compare.specs.Complete.{AreListed}
+use Rattle.compare.specs.Difference.{SayTheSame, name_of}
 use Rattle.compare.specs.Order.{IsSides}
 use Rattle.compare.specs.declared.change.Change.{Change}
 use Rattle.compare.specs.declared.difference.Difference.{Difference}
 use Rattle.compare.specs.declared.outcome.Comparison.{Comparison}
 use Rattle.compare.specs.declared.outcome.Comparison.TheVariants.{Same, Differ, Undecided}
+use Rattle.compare.specs.declared.search.Crowded.{Crowded}
 use Rattle.compare.specs.declared.sides.Sides.{Sides}
 use Rattle.compare.specs.declared.sides.Sides.TheVariants.{Alike, NoMore, NoLess, MoreAndLess}
 
--- what is so of two profiles: of the calls that are told also where it was not decided what they come to
-abbrev pub IsComparison : Policy → Policy → Comparison → Type 0
-IsComparison p q Same = SayTheSame p q
-IsComparison p q (Differ changes sides) = All (IsChange p q) changes.items × IsSides p q changes.items sides
-IsComparison p q (Undecided changes size) = All (IsChange p q) changes.items
+-- what is so of two profiles: each call that differs is told, or it is one of those that are not decided
+abbrev pub IsComparison : Family → Policy → Policy → Comparison → Type 0
+IsComparison family p q Same = SayTheSame p q
+IsComparison family p q (Differ changes sides) = AreListed family p q changes.items [] × IsSides p q changes.items sides
+IsComparison family p q (Undecided changes crowded) = AreListed family p q changes.items crowded.items × (crowded.items ≢ [])
 
 -- ---- the text
-
--- a call by its name, or else by its number
-abbrev pub named : Option (List ℕ) → ℕ → List ℕ
-named (Some name) nr = name
-named None nr = decimal nr
-
-abbrev pub name_of : Option Arch → ℕ → List ℕ
-name_of (Some arch) nr = named (name_in (table_of arch) nr) nr
-name_of None nr = decimal nr
 
 -- its machine
 abbrev pub machine_of : Option Arch → List ℕ
@@ -81,15 +72,18 @@ sides_text NoMore = codes "allows no more\n"
 sides_text NoLess = codes "allows no less\n"
 sides_text MoreAndLess = codes "allows more and less\n"
 
-abbrev pub size_text : Size → List ℕ
-size_text TooLong = codes "undecided 1 TooLong\n"
-size_text TooLarge = codes "undecided 2 TooLarge\n"
+-- a call that is not decided, with its machine
+abbrev pub crowded_call : Crowded → List ℕ
+crowded_call c = name_of c.arch c.nr ++ codes " of " ++ machine_of c.arch
+
+abbrev pub crowded_line : Crowded → List ℕ
+crowded_line c = codes "undecided 2 TooLarge " ++ crowded_call c ++ codes "\n"
 
 -- the text that says it
 abbrev pub text_of : Comparison → List ℕ
 text_of Same = codes "same\n"
 text_of (Differ changes sides) = flat_map line_of changes.items ++ sides_text sides
-text_of (Undecided changes size) = flat_map line_of changes.items ++ size_text size
+text_of (Undecided changes crowded) = flat_map line_of changes.items ++ flat_map crowded_line crowded.items
 
 -- ---- the status
 
@@ -104,4 +98,4 @@ is_no_more MoreAndLess = false
 abbrev pub is_done : Bool → Comparison → Bool
 is_done atmost Same = true
 is_done atmost (Differ changes sides) = if atmost then is_no_more sides else false
-is_done atmost (Undecided changes size) = false
+is_done atmost (Undecided changes crowded) = false

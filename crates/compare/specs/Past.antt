@@ -1,48 +1,34 @@
--- Calls that get past a profile by bits that nobody reads.
-use Rattle.std.specs.Prelude.{◌≢◌, ◌<◌, ⊤, []}
-use Rattle.std.specs.List.{All}
-use Rattle.call_record.specs.Record.{words}
-use Rattle.call_record.specs.Verdict.{Through}
-use Rattle.explain.specs.Alike.{Alike, IsCleared, IsNarrowed}
-use Rattle.explain.specs.Counts.{most_narrowed}
-use Rattle.compare.specs.Decided.{AreTooLong}
-use Rattle.compare.specs.NoMore.{AllowsNoMore}
-use Rattle.profile.specs.Policy.{Policy, Says, most_rules}
-use Rattle.compare.specs.declared.lint.past.Past.{Past}
-use Rattle.compare.specs.declared.lint.past.Size.{Size}
-use Rattle.compare.specs.declared.lint.past.Size.TheVariants.{TooMany, TooLong, TooLarge}
+-- Calls that get past a profile, and those of which it is not decided, as lines tell them.
+use Rattle.std.specs.Prelude.{◌≡◌, ◌≢◌, ◌⊎◌, ℕ, true, List, []}
+use Rattle.std.specs.List.{All, list_any}
+use Rattle.call_tables.specs.declared.arch.Family.{Family}
+use Rattle.wording.specs.Phrases.{machine_with}
+use Rattle.differ.specs.OnCall.{is_for}
+use Rattle.unread_bits.specs.Crowded.{AreCrowded}
+use Rattle.unread_bits.specs.Past.{GetsPast, NoneGetsPast, NothingGetsPast, is_past_of}
+use Rattle.unread_bits.specs.declared.past.Past.{Past}
+use Rattle.profile.specs.Policy.{Policy}
+use Rattle.compare.specs.Complete.{is_crowded}
 use Rattle.compare.specs.declared.lint.past.Finding.{Finding}
 use Rattle.compare.specs.declared.lint.past.Finding.TheVariants.{Nothing, GetPast, Undecided}
+use Rattle.compare.specs.declared.search.Crowded.{Crowded}
 
--- The profile lets the call through, and refuses the same call with the bits at 0 that are not read: the two are alike to the kernel.
-pub record GetsPast (p : Policy) (past : Past) : Type 0 where
-  pub cleared : IsCleared (words past.call) (words past.cleared)
-  pub alike : Alike (words past.call) (words past.cleared)
-  pub says : Says p (words past.call) past.word
-  pub through : Through past.word
-  pub says_cleared : Says p (words past.cleared) past.cleared_word
-  pub refused : Through past.cleared_word → ⊥
+-- the call is crowded, and its machine is told by token and number
+pub record IsUndecided (family : Family) (p : Policy) (c : Crowded) : Type 0 where
+  pub machine : c.arch ≡ machine_with family c.token c.nr
+  pub is : AreCrowded p c.token c.nr
 
--- the profile allows no more than its narrowed one
-pub record NothingGetsPast (p : Policy) : Type 0 where
-  pub narrowed : Policy
-  pub is : IsNarrowed p narrowed
-  pub no_more : AllowsNoMore p narrowed
-
--- the programs that are planned for the profile and for its narrowed one are together longer than a filter may be
-pub record IsTooLong (p : Policy) : Type 0 where
-  pub narrowed : Policy
-  pub is : IsNarrowed p narrowed
-  pub longer : AreTooLong p narrowed
-
--- A size that was too small: the narrowed rules may be more than a profile may have. Of a certificate nothing is said.
-abbrev pub IsTooSmall : Policy → Size → Type 0
-IsTooSmall p TooMany = most_rules < most_narrowed p.rules
-IsTooSmall p TooLong = IsTooLong p
-IsTooSmall p TooLarge = ⊤
+-- Each call that a rule is for and that gets past is among these, or it is crowded. Where nothing is crowded and none is told, nothing
+-- gets past.
+pub record ArePast (family : Family) (p : Policy) (list : List Past) (crowded : List Crowded) : Type 0 where
+  pub past : All (GetsPast p) list
+  pub are_crowded : All (IsUndecided family p) crowded
+  pub complete : (token nr : ℕ) → list_any (is_for token nr) p.rules ≡ true
+      → NoneGetsPast p token nr ⊎ ((list_any (is_past_of token nr) list ≡ true) ⊎ (list_any (is_crowded token nr) crowded ≡ true))
+  pub others : list ≡ [] → crowded ≡ [] → NothingGetsPast p
 
 -- what is found is so
-abbrev pub IsFinding : Policy → Finding → Type 0
-IsFinding p Nothing = NothingGetsPast p
-IsFinding p (GetPast list) = All (GetsPast p) list.items × (list.items ≢ [])
-IsFinding p (Undecided size) = IsTooSmall p size
+abbrev pub IsFinding : Family → Policy → Finding → Type 0
+IsFinding family p Nothing = NothingGetsPast p
+IsFinding family p (GetPast list) = ArePast family p list.items [] × (list.items ≢ [])
+IsFinding family p (Undecided list crowded) = ArePast family p list.items crowded.items × (crowded.items ≢ [])

@@ -7,7 +7,7 @@ use Rattle.call_tables.specs.declared.arch.Arch.{Arch}
 use Rattle.call_tables.specs.declared.arch.Family.{Family}
 use Rattle.call_tables.specs.declared.numbers.Numbers.{Numbers}
 use Rattle.call_tables.specs.Arch.{machine_name}
-use Rattle.explain.specs.Phrases.{hexadecimal, machine_with}
+use Rattle.wording.specs.Phrases.{hexadecimal, machine_with}
 use Rattle.compare.specs.declared.behind_runc.stub.calls.Calls.{Calls}
 
 -- a machine by its name, or by its token

@@ -4,7 +4,9 @@ use Rattle.std.specs.Fmt.{decimal}
 use Rattle.serde_json.specs.Data.{Data}
 use Rattle.texts.specs.Lines.{line_feed}
 use Rattle.call_tables.specs.declared.arch.Arch.{Arch}
-use Rattle.explain.specs.declared.told.Told.{Told}
+use Rattle.call_tables.specs.declared.arch.Family.{Family}
+use Rattle.call_tables.specs.Arch.{family_of}
+use Rattle.wording.specs.declared.told.Told.{Told}
 use Rattle.profile.specs.Policy.{Policy}
 use Rattle.profile_json.specs.Breaks.{Breaks}
 use Rattle.profile_json.specs.Fault.{fault_of, text_of as refusal_text}
@@ -44,9 +46,9 @@ pub record IsRefused (native : Arch) (bundle : List ℕ) (place : ℕ) (told : T
   pub tells : TellsRefusal place fault told
 
 -- what is told of two profiles is so: of such as are the same but for the order of their rules, that they are the same
-pub record AreTold (atmost : Bool) (p q : Policy) (told : Told) : Type 0 where
+pub record AreTold (atmost : Bool) (family : Family) (p q : Policy) (told : Told) : Type 0 where
   pub comparison : Comparison
-  pub is : IsComparison p q comparison
+  pub is : IsComparison family p q comparison
   pub equal : AreEqual p q → comparison ≡ Same
   pub tells : TellsComparison atmost comparison told
 
@@ -56,7 +58,7 @@ pub record AreCompared (atmost : Bool) (native : Arch) (first second : List ℕ)
   pub other : Policy
   pub means_one : IsBundle native first one
   pub means_other : IsBundle native second other
-  pub compared : AreTold atmost one other told
+  pub compared : AreTold atmost (family_of native) one other told
 
 -- the first bundle is refused; or it means a profile, and the second one is refused; or both mean profiles
 abbrev pub IsCompared : Bool → Arch → List ℕ → List ℕ → Told → Type 0

@@ -1,5 +1,4 @@
-pub mod Excess
 pub mod Path
 pub mod Parts
-pub mod ProfileParts
 pub mod Spans
+pub mod Sided

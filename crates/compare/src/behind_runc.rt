@@ -1,10 +1,12 @@
 //! A filter of a container that runc started: the stub that runc puts in front of it, and what is judged of the filter behind it.
+mod all;
 mod behind;
 mod judged;
 mod spared;
 mod stub;
 mod text;
 
+pub use all::convictions_behind;
 pub use behind::{Behind, behind_stub};
 pub use judged::{Judged, judge_behind, write_behind};
 pub use text::stub_text;

@@ -1,5 +1,6 @@
-//! Which calls are compared.
+//! Which calls are compared first.
 use call_tables::{Arch, Family};
+use differ::Call;
 use std::alloc::{AllocError, Global};
 
 // So many numbers behind the first one that a call may have, no call has one.
@@ -13,20 +14,30 @@ fn number_without_call(arch: Arch) -> u32 {
     }
 }
 
-/// The calls of a family's tables, by machine and number, and after them a number without a call for each machine.
-pub(crate) fn calls(alloc: Global, family: Family) -> Result<Vec<(Arch, u32)>, AllocError> {
-    let mut calls = Vec::new(alloc);
-    for arch in family.machines() {
-        for numbers in arch.call_numbers() {
-            for nr in numbers.first..numbers.last.saturating_add(1) {
-                if arch.name(nr).is_some() {
-                    calls.push((*arch, nr))?;
-                }
+// Adds the calls of a machine's table.
+fn add_calls(arch: Arch, calls: &mut Vec<Call>) -> Result<(), AllocError> {
+    let token = arch.token();
+    for numbers in arch.call_numbers() {
+        for nr in numbers.first..numbers.last.saturating_add(1) {
+            if arch.name(nr).is_some() {
+                calls.push(Call { token, nr })?;
             }
         }
     }
+    Ok(())
+}
+
+/// The calls of a family's tables, by machine and number, and after them a number without a call for each machine.
+pub(crate) fn calls(alloc: Global, family: Family) -> Result<Vec<Call>, AllocError> {
+    let mut calls = Vec::new(alloc);
     for arch in family.machines() {
-        calls.push((*arch, number_without_call(*arch)))?;
+        add_calls(*arch, &mut calls)?;
+    }
+    for arch in family.machines() {
+        calls.push(Call {
+            token: arch.token(),
+            nr: number_without_call(*arch),
+        })?;
     }
     Ok(calls)
 }

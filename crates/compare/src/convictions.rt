@@ -4,4 +4,5 @@ mod lines;
 mod search;
 
 pub use judged::convictions_of;
+pub(crate) use judged::put_first;
 pub use lines::write_convictions;

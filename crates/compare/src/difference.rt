@@ -3,12 +3,12 @@ ghost use Rattle.std.specs.Prelude.{◌≡◌, IfSome};
 ghost use Rattle.call_record.specs.Record.{words};
 ghost use Rattle.call_record.specs.Words.{IsRecord};
 ghost use Rattle.call_tables.specs.Arch.{token_of};
-ghost use Rattle.compare.specs.Difference.{IsDifference, record_of};
+ghost use Rattle.wording.specs.Phrases.{machine_with};
+ghost use Rattle.compare.specs.Difference.{record_of};
 
 use call_record::{Record, Word, lets_through, words_are_a_record};
 use call_tables::{Arch, Family};
-use explain::machine_with;
-use profile::Profile;
+use wording::machine_with;
 
 /// A call record, and the verdicts that a first and a second profile say of it.
 #[derive(Clone, Copy, Debug)]
@@ -50,22 +50,6 @@ impl Difference {
     }
 }
 
-// The machine of a family that has the call, if it is one with the token.
-fn machine_of(family: Family, call: &Record) -> Option<Arch>
-    ensures { IfSome result (λ arch. token_of arch ≡ call.now.arch) }
-{
-    match machine_with(family, call.arch, call.nr) {
-        Some(arch) => {
-            if arch.token() == call.arch {
-                Some(arch)
-            } else {
-                None
-            }
-        }
-        None => None,
-    }
-}
-
 /// A call record with the verdicts of two profiles or filters.
 pub fn difference_on(
     family: Family,
@@ -76,14 +60,17 @@ pub fn difference_on(
 ) -> Difference
     ensures record_is { record_of result ≡ words call.now }
     ensures is_record { IsRecord (words call.now) }
+    ensures pinned { result.arch ≡ machine_with family result.token result.nr }
     ensures machine { IfSome result.arch (λ arch. token_of arch ≡ result.token) }
+    ensures token { result.token ≡ call.now.arch }
+    ensures nr { result.nr ≡ call.now.nr }
     ensures first_is { result.first ≡ first }
     ensures second_is { result.second ≡ second }
 {
     words_are_a_record(call);
     let Record { nr, arch, ip, args } = *call;
     Difference {
-        arch: machine_of(family, call),
+        arch: machine_with(family, arch, nr),
         token: arch,
         nr,
         ip,
@@ -92,22 +79,4 @@ pub fn difference_on(
         first,
         second,
     }
-}
-
-/// What two profiles say of a call record, where it is not the same.
-pub(crate) fn unlike_verdicts(
-    family: Family,
-    first: &Profile,
-    second: &Profile,
-    call: &Record,
-    asked: [bool; 6],
-) -> Option<Difference>
-    ensures { IfSome result (IsDifference first.now second.now) }
-{
-    let one = first.decide(call);
-    let other = second.decide(call);
-    if one.0 == other.0 {
-        return None;
-    }
-    Some(difference_on(family, call, asked, one, other))
 }

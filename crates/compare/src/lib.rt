@@ -12,25 +12,22 @@ mod difference;
 mod equal;
 mod filters;
 pub mod lint;
-mod order;
 mod outcome;
-mod parts;
-mod records;
-mod same;
 mod search;
 mod sides;
 mod text;
 mod told;
-mod tried;
 
-pub use behind_runc::{Behind, Judged, behind_stub, judge_behind, stub_text, write_behind};
+pub use behind_runc::{
+    Behind, Judged, behind_stub, convictions_behind, judge_behind, stub_text, write_behind,
+};
 pub use change::Change;
 pub use convicting::explain_found;
 pub use convictions::{convictions_of, write_convictions};
 pub use difference::{Difference, difference_on};
 pub use filters::{compare_filters, find_differences};
-pub use order::{AtMost, Excess, Size, allows_no_more};
 pub use outcome::Comparison;
+pub use search::Crowded;
 pub use sides::Sides;
 pub use text::lines_of;
 pub use told::compare;

@@ -1,17 +1,15 @@
 //! Calls that get past a profile: it refuses a call, and lets through another one that is the same to the kernel, since it compares
 //! bits of an argument that the kernel does not read.
-mod candidates;
 mod decided;
 mod hints;
 mod pairs;
 mod past;
 mod places;
 mod remarks;
-mod search;
 mod text;
 mod told;
 
 pub use decided::finding;
 pub use hints::hint;
-pub use past::{Finding, Past, Size};
+pub use past::{Finding, Past};
 pub use told::lint;

@@ -1,210 +1,104 @@
-//! The calls of which two profiles say unlike verdicts.
-ghost use Rattle.std.specs.Prelude.{IfOk, IfSome, All};
+//! The calls on which two profiles differ, as lines tell them.
+ghost use Rattle.std.specs.Prelude.{◌≡◌, ℕ, true, IfOk, All};
+ghost use Rattle.std.specs.List.{list_any};
+ghost use Rattle.differ.specs.Differences.{is_told};
+ghost use Rattle.differ.specs.OnCall.{AreCrowded, IsFound};
 ghost use Rattle.profile.specs.Policy.{Policy};
+ghost use Rattle.differ.specs.declared.direction.Direction.{Direction as TheDirection};
+ghost use Rattle.differ.specs.declared.direction.Direction.TheVariants.{Any};
+ghost use Rattle.differ.specs.inner.Named.{is_named};
+ghost use Rattle.compare.specs.Complete.{IsCrowded, is_crowded, is_on};
 ghost use Rattle.compare.specs.Difference.{IsDifference};
+ghost use Rattle.compare.specs.Past.{IsUndecided};
+ghost use Rattle.unread_bits.specs.Crowded as past;
 
-use crate::calls::calls;
-use crate::difference::{Difference, unlike_verdicts};
-use crate::records::{asked_by, conditions_on};
-use crate::tried::{Search, ask_alike};
+use crate::difference::{Difference, difference_on};
 use call_record::Record;
 use call_tables::{Arch, Family};
+use differ::{Call, Found};
 use profile::Profile;
 use std::alloc::{AllocError, Global};
+use wording::machine_with;
 
-// Which differences are looked for.
-#[derive(Clone, Copy)]
-enum Kind {
-    Any,
-    Less,
-    More,
+/// A call with more combinations of answers than are looked at, so that it is not decided.
+#[derive(Clone, Copy, Debug)]
+pub struct Crowded {
+    /// The machine of the call.
+    pub arch: Option<Arch>,
+    /// The token of the machine.
+    pub token: u32,
+    /// The number of the call.
+    pub nr: u32,
 }
 
-// What is found of a call: the first difference, and the first of each direction.
-#[derive(Clone, Copy)]
-struct Found {
-    any: Option<Difference>,
-    less: Option<Difference>,
-    more: Option<Difference>,
-}
-
-// The call whose records are tried, and which arguments are asked for.
-#[derive(Clone, Copy)]
-struct Call {
-    family: Family,
-    arch: Arch,
-    nr: u32,
-    asked: [bool; 6],
-}
-
-fn is_of(kind: Kind, found: &Difference) -> bool {
-    match kind {
-        Kind::Any => true,
-        Kind::Less => found.is_less(),
-        Kind::More => found.is_more(),
-    }
-}
-
-// The record of a call.
-fn record_of(arch: Arch, nr: u32, args: [u64; 6]) -> Record {
-    Record {
-        nr,
-        arch: arch.token(),
-        ip: 0,
-        args,
-    }
-}
-
-// The first of the records that are tried for a call of which the profiles say unlike verdicts of a kind.
-fn first_difference(
-    first: &Profile,
-    second: &Profile,
-    call: Call,
-    tried: &[[u64; 6]],
-    kind: Kind,
-) -> Option<Difference>
-    ensures { IfSome result (IsDifference first.now second.now) }
-{
-    for args in tried {
-        let rec = record_of(call.arch, call.nr, *args);
-        if let Some(found) = unlike_verdicts(call.family, first, second, &rec, call.asked) {
-            if is_of(kind, &found) {
-                return Some(found);
+// Adds the arguments for which the rules of a profile for a call ask.
+fn add_asked(profile: &Profile, call: &Record, asked: &mut [bool; 6]) {
+    for rule in profile.rules() {
+        if rule.nr == call.nr && rule.arch.token() == call.arch {
+            for cond in rule.conds.as_slice() {
+                asked[cond.index as usize] = true;
             }
         }
     }
-    None
 }
 
-// Adds a record.
-fn add(list: &mut Vec<Difference>, found: Difference) -> Result<(), AllocError>
-    ensures { (p q : Policy) → All (IsDifference p q) list.old.items → IsDifference p q found
-        → IfOk result (λ _. All (IsDifference p q) list.new.items) }
+// The arguments for which the rules of two profiles for a call ask.
+fn asked_on(first: &Profile, second: &Profile, call: &Record) -> [bool; 6] {
+    let mut asked = [false; 6];
+    add_asked(first, call, &mut asked);
+    add_asked(second, call, &mut asked);
+    asked
+}
+
+// A record on which two profiles differ.
+fn difference_of(family: Family, first: &Profile, second: &Profile, found: &Found) -> Difference
+    requires { IsFound first.now second.now found.now.call.arch found.now.call.nr Any found.now }
+    ensures is { IsDifference family first.now second.now result }
+    ensures token { result.token ≡ found.now.call.arch }
+    ensures nr { result.nr ≡ found.now.call.nr }
+    ensures first_is { result.first ≡ found.now.first }
+    ensures second_is { result.second ≡ found.now.second }
 {
-    list.push(found)?;
-    Ok(())
+    let asked = asked_on(first, second, &found.call);
+    difference_on(family, &found.call, asked, found.first, found.second)
 }
 
-// Adds a record, if there is one.
-fn add_found(list: &mut Vec<Difference>, found: Option<Difference>) -> Result<(), AllocError>
-    ensures { (p q : Policy) → All (IsDifference p q) list.old.items → IfSome found (IsDifference p q)
-        → IfOk result (λ _. All (IsDifference p q) list.new.items) }
-{
-    match found {
-        Some(found) => add(list, found),
-        None => Ok(()),
-    }
-}
-
-// What is found of a call among the records that are tried.
-fn found_among(first: &Profile, second: &Profile, call: Call, tried: &[[u64; 6]]) -> Found
-    ensures any { IfSome result.any (IsDifference first.now second.now) }
-    ensures less { IfSome result.less (IsDifference first.now second.now) }
-    ensures more { IfSome result.more (IsDifference first.now second.now) }
-{
-    let any = first_difference(first, second, call, tried, Kind::Any);
-    if any.is_none() {
-        return Found {
-            any,
-            less: None,
-            more: None,
-        };
-    }
-    Found {
-        any,
-        less: first_difference(first, second, call, tried, Kind::Less),
-        more: first_difference(first, second, call, tried, Kind::More),
-    }
-}
-
-// The arguments of what is found.
-fn args_of(alloc: Global, found: &Found) -> Result<Vec<[u64; 6]>, AllocError> {
-    let mut args = Vec::new(alloc);
-    for difference in [found.any, found.less, found.more].iter().flatten() {
-        args.push(difference.args)?;
-    }
-    Ok(args)
-}
-
-// Adds a record for each direction, or the first one where it is of neither.
-fn add_all(list: &mut Vec<Difference>, found: Found) -> Result<(), AllocError>
-    ensures { (p q : Policy) → All (IsDifference p q) list.old.items → IfSome found.any (IsDifference p q)
-        → IfSome found.less (IsDifference p q) → IfSome found.more (IsDifference p q)
-        → IfOk result (λ _. All (IsDifference p q) list.new.items) }
-{
-    if found.less.is_none() && found.more.is_none() {
-        return add_found(list, found.any);
-    }
-    add_found(list, found.less)?;
-    add_found(list, found.more)
-}
-
-// What is found of a call. Calls that have the same rules differ on the same arguments.
-fn found_of(
-    alloc: Global,
-    first: &Profile,
-    second: &Profile,
-    named: (Family, Arch, u32),
-    search: &mut Search,
-) -> Result<Found, AllocError>
-    ensures any { IfOk result (λ found. IfSome found.any (IsDifference first.now second.now)) }
-    ensures less { IfOk result (λ found. IfSome found.less (IsDifference first.now second.now)) }
-    ensures more { IfOk result (λ found. IfSome found.more (IsDifference first.now second.now)) }
-{
-    let (family, arch, nr) = named;
-    let conds = conditions_on(alloc, first, second, (arch, nr))?;
-    let call = Call {
-        family,
-        arch,
-        nr,
-        asked: asked_by(&conds),
-    };
-    if let Some(args) = search.found(first, second, arch, nr) {
-        return Ok(found_among(first, second, call, args));
-    }
-    let tried = search.records(alloc, &conds, arch)?;
-    let found = found_among(first, second, call, &tried);
-    search.keep(arch, nr, args_of(alloc, &found)?)?;
-    Ok(found)
-}
-
-// Adds what is found of a call, if the profiles have not the same rules for it.
-fn add_call(
-    alloc: Global,
-    first: &Profile,
-    second: &Profile,
-    named: (Family, Arch, u32),
-    search: &mut Search,
-    list: &mut Vec<Difference>,
-) -> Result<(), AllocError>
-    ensures { All (IsDifference first.now second.now) list.old.items → IfOk result (λ _. All (IsDifference first.now second.now) list.new.items) }
-{
-    let (_, arch, nr) = named;
-    if ask_alike(first, second, arch, nr) {
-        return Ok(());
-    }
-    match found_of(alloc, first, second, named, search) {
-        Ok(found) => add_all(list, found),
-        Err(error) => Err(error),
-    }
-}
-
-/// Records for the calls of which two profiles say unlike verdicts, where some are found: those of the tables of a family come
-/// first.
-pub(crate) fn differences(
+/// The records on which two profiles differ.
+pub(crate) fn differences_of(
     alloc: Global,
     family: Family,
     first: &Profile,
     second: &Profile,
+    all: &[Found],
 ) -> Result<Vec<Difference>, AllocError>
-    ensures { IfOk result (λ list. All (IsDifference first.now second.now) list.items) }
+    requires { All (λ f. IsFound first.now second.now f.call.arch f.call.nr Any f) all.now }
+    ensures are { IfOk result (λ list. All (IsDifference family first.now second.now) list.items) }
+    ensures on { (t n : ℕ) (d : TheDirection) → is_told all.now t n d ≡ true → IfOk result (λ list. list_any (is_on t n d) list.items ≡ true) }
 {
     let mut list = Vec::new(alloc);
-    let mut search = Search::new(alloc);
-    let all = calls(alloc, family)?;
-    for (arch, nr) in &all {
-        let named = (family, *arch, *nr);
-        add_call(alloc, first, second, named, &mut search, &mut list)?;
+    for found in all {
+        list.push(difference_of(family, first, second, found))?;
+    }
+    Ok(list)
+}
+
+/// The calls that are crowded, with their machines.
+pub(crate) fn crowded_of(
+    alloc: Global,
+    family: Family,
+    calls: &[Call],
+) -> Result<Vec<Crowded>, AllocError>
+    ensures are { (p q : Policy) → All (λ call. AreCrowded p q call.token call.nr) calls.now → IfOk result (λ list. All (IsCrowded family p q) list.items) }
+    ensures undecided { (p : Policy) → All (λ call. past.AreCrowded p call.token call.nr) calls.now → IfOk result (λ list. All (IsUndecided family p) list.items) }
+    ensures named { (t n : ℕ) → is_named calls.now t n ≡ true → IfOk result (λ list. list_any (is_crowded t n) list.items ≡ true) }
+{
+    let mut list = Vec::new(alloc);
+    for call in calls {
+        list.push(Crowded {
+            arch: machine_with(family, call.token, call.nr),
+            token: call.token,
+            nr: call.nr,
+        })?;
     }
     Ok(list)
 }

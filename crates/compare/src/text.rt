@@ -3,22 +3,23 @@ ghost use Rattle.std.specs.Prelude.{◌≡◌, ◌++◌, false, IfOk, length, st
 ghost use Rattle.std.specs.List.{flat_map};
 ghost use Rattle.call_tables.specs.Arch.{table_of};
 ghost use Rattle.call_tables.specs.Table.{name_in};
+ghost use Rattle.compare.specs.Difference.{name_of, named};
 ghost use Rattle.compare.specs.Outcome as spec;
 
 use crate::change::Change;
 use crate::difference::Difference;
-use crate::order::Size;
 use crate::outcome::Comparison;
+use crate::search::Crowded;
 use crate::sides::Sides;
 use call_record::Word;
 use call_tables::Arch;
-use explain::ActionText;
 use std::alloc::{AllocError, Global};
 use std::fmt::Write;
+use wording::ActionText;
 
 // Adds the name of a machine's call, or else its number.
 fn put_name(text: &mut String, arch: Arch, nr: u32) -> Result<(), AllocError>
-    ensures { IfOk result (λ _. string_bytes text.new ≡ string_bytes text.old ++ spec.named (name_in (table_of arch) nr) nr) }
+    ensures { IfOk result (λ _. string_bytes text.new ≡ string_bytes text.old ++ named (name_in (table_of arch) nr) nr) }
 {
     match arch.name(nr) {
         Some(name) => text.push_str(name),
@@ -28,7 +29,7 @@ fn put_name(text: &mut String, arch: Arch, nr: u32) -> Result<(), AllocError>
 
 // Adds the name of a call, or else its number.
 fn put_call(text: &mut String, arch: Option<Arch>, nr: u32) -> Result<(), AllocError>
-    ensures { IfOk result (λ _. string_bytes text.new ≡ string_bytes text.old ++ spec.name_of arch nr) }
+    ensures { IfOk result (λ _. string_bytes text.new ≡ string_bytes text.old ++ name_of arch nr) }
 {
     match arch {
         Some(arch) => put_name(text, arch, nr),
@@ -154,14 +155,33 @@ fn sides_text(sides: Sides) -> &'static str
     }
 }
 
-// The line that says for which size it was not decided.
-fn size_text(size: Size) -> &'static str
-    ensures { result.now ≡ spec.size_text size }
+// Adds a call that is not decided, with its machine.
+fn put_crowded_call(text: &mut String, call: &Crowded) -> Result<(), AllocError>
+    ensures { IfOk result (λ _. string_bytes text.new ≡ string_bytes text.old ++ spec.crowded_call call.now) }
 {
-    match size {
-        Size::TooLong => "undecided 1 TooLong\n",
-        Size::TooLarge => "undecided 2 TooLarge\n",
+    put_call(text, call.arch, call.nr)?;
+    text.push_str(" of ")?;
+    text.push_str(machine_of(call.arch))
+}
+
+// Adds its line.
+fn put_crowded(text: &mut String, call: &Crowded) -> Result<(), AllocError>
+    ensures { IfOk result (λ _. string_bytes text.new ≡ string_bytes text.old ++ spec.crowded_line call.now) }
+{
+    text.push_str("undecided 2 TooLarge ")?;
+    put_crowded_call(text, call)?;
+    text.push_str("\n")?;
+    Ok(())
+}
+
+// Adds the lines of calls that are not decided.
+fn put_all_crowded(text: &mut String, calls: &[Crowded]) -> Result<(), AllocError>
+    ensures { IfOk result (λ _. string_bytes text.new ≡ string_bytes text.old ++ flat_map spec.crowded_line calls.now) }
+{
+    for call in calls {
+        put_crowded(text, call)?;
     }
+    Ok(())
 }
 
 // Adds the lines of changes, and what they come to.
@@ -173,13 +193,17 @@ fn put_list(text: &mut String, changes: &[Change], sides: Sides) -> Result<(), A
     text.push_str(sides_text(sides))
 }
 
-// Adds the lines of changes, and for which size it was not decided what they come to.
-fn put_undecided(text: &mut String, changes: &[Change], size: Size) -> Result<(), AllocError>
+// Adds the lines of changes, and of calls that are not decided.
+fn put_undecided(
+    text: &mut String,
+    changes: &[Change],
+    crowded: &[Crowded],
+) -> Result<(), AllocError>
     ensures { IfOk result (λ _. string_bytes text.new ≡ string_bytes text.old
-        ++ flat_map spec.line_of changes.now ++ spec.size_text size) }
+        ++ flat_map spec.line_of changes.now ++ flat_map spec.crowded_line crowded.now) }
 {
     put_changes(text, changes)?;
-    text.push_str(size_text(size))
+    put_all_crowded(text, crowded)
 }
 
 // Adds how two profiles compare.
@@ -189,7 +213,7 @@ fn put_comparison(text: &mut String, comparison: &Comparison) -> Result<(), Allo
     match comparison {
         Comparison::Same => text.push_str("same\n"),
         Comparison::Differ(changes, sides) => put_list(text, changes, *sides),
-        Comparison::Undecided(changes, size) => put_undecided(text, changes, *size),
+        Comparison::Undecided(changes, crowded) => put_undecided(text, changes, crowded),
     }
 }
 

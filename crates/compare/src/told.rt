@@ -1,14 +1,15 @@
 //! What `ccell compare` tells.
 ghost use Rattle.std.specs.Prelude.{◌≡◌, ℕ, List, IfOk, string_bytes};
+ghost use Rattle.call_tables.specs.Arch.{family_of};
 ghost use Rattle.compare.specs.Told as spec;
 
 use crate::outcome::{Comparison, compared};
 use crate::text::{is_done, text_of};
 use call_tables::Arch;
-use explain::Told;
 use profile::Profile;
 use profile_json::{ProfileError, read_bundle};
 use std::alloc::{AllocError, Global};
+use wording::Told;
 
 // The line that tells why the bundle at a place is refused.
 fn refusal_line(alloc: Global, error: ProfileError, place: u32) -> Result<String, AllocError>
@@ -50,7 +51,7 @@ fn compare_profiles(
     other: &Profile,
     atmost: bool,
 ) -> Result<Told, AllocError>
-    ensures { IfOk result (spec.AreTold atmost one.now other.now) }
+    ensures { IfOk result (spec.AreTold atmost (family_of native) one.now other.now) }
 {
     let comparison = compared(alloc, native.family(), one, other)?;
     told(alloc, &comparison, atmost)

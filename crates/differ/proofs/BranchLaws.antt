@@ -4,7 +4,7 @@ use Rattle.std.specs.Prelude.{Result, Ok, Err, IfOk, IfErr}
 use Rattle.std.proofs.lemmas.List.{length_push}
 use Rattle.std.specs.List.{All, Contains}
 use Rattle.std.specs.Int.{bit_at}
-use Rattle.std.proofs.lemmas.List.Elements.{All-cons, All-get_or, All-nil, All-push, All-weaker}
+use Rattle.std.proofs.lemmas.List.Elements.{All-cons, All-contains, All-get_or, All-nil, All-push, All-weaker}
 use Rattle.profile.specs.declared.conditions.Cond.{Cond}
 use Rattle.profile.specs.declared.conditions.Op.{Op}
 use Rattle.profile.specs.declared.conditions.Op.TheVariants.{MaskedEq}
@@ -27,6 +27,14 @@ pub narrows_skip : (high rest : ℕ) (conds kept : List Cond) (c : Cond) → Nar
     → Narrows high rest (conds ++ c ∷ []) kept
 narrows_skip high rest conds kept c n decided = record {
   enough = λ u v hu hv h. All-push (λ x. meets x u ≡ meets x v) conds c (n.enough u v hu hv h) (decided u v hu hv);
+  fewer = λ u v h. n.fewer u v (all_front (λ x. meets x u ≡ meets x v) conds c h);
+}
+
+-- one that is kept already
+pub narrows_has : (high rest : ℕ) (conds kept : List Cond) (c : Cond) → Narrows high rest conds kept → Contains kept c
+    → Narrows high rest (conds ++ c ∷ []) kept
+narrows_has high rest conds kept c n has = record {
+  enough = λ u v hu hv h. All-push (λ x. meets x u ≡ meets x v) conds c (n.enough u v hu hv h) (All-contains (λ x. meets x u ≡ meets x v) kept c h has);
   fewer = λ u v h. n.fewer u v (all_front (λ x. meets x u ≡ meets x v) conds c h);
 }
 

@@ -20,7 +20,6 @@ use Rattle.differ.specs.declared.direction.Direction.{Direction}
 use Rattle.differ.specs.declared.direction.Direction.TheVariants.{Any, More, Less}
 use Rattle.differ.specs.declared.named.Call.{Call}
 use Rattle.differ.specs.Direction.{tells}
-use Rattle.differ.specs.Everywhere.{StandForAll}
 use Rattle.differ.specs.OnCall.{AreLikeOn, AreLikeOnCall, IsOfCall, is_for}
 use Rattle.differ.specs.inner.Named.{AreCovered, IsCovered, is_call, is_named, low_numbers, high_numbers, last_number}
 use Rattle.differ.proofs.OpenLaws.{all_left, all_right, native_is, said_by, said_named}
@@ -158,7 +157,7 @@ pub record AreListed (p q : Policy) (named rest : List Call) : Type 0 where
   pub aarch64 : AreCovered named rest aarch64_token
   pub arm : AreCovered named rest arm_token
 
-no_rule : (named : List Call) (rules : List Rule) (t n : ℕ) → ((t n : ℕ) → list_any (is_for t n) rules ≡ true → is_named named t n ≡ true)
+pub no_rule : (named : List Call) (rules : List Rule) (t n : ℕ) → ((t n : ℕ) → list_any (is_for t n) rules ≡ true → is_named named t n ≡ true)
     → is_named named t n ≡ false → list_any (is_for t n) rules ≡ false
 no_rule named rules t n h unnamed = elim (cases_Bool (list_any (is_for t n) rules)) [
   | inl some ↦ absurd (both_ways (is_named named t n) unnamed (h t n some))
@@ -182,7 +181,7 @@ sample_of token nr t n = record {
 }
 
 by_cover : (p q : Policy) (named rest : List Call) (direction : Direction) (token n : ℕ) (numbers : Numbers) (r : List ℕ) → AreListed p q named rest
-    → All (λ call. AreLikeOnCall p q call.token call.nr direction) rest → token < 2 ^ 32 → numbers.last < 2 ^ 32
+    → ((m : ℕ) → is_named rest token m ≡ true → AreLikeOnCall p q token m direction) → token < 2 ^ 32 → numbers.last < 2 ^ 32
     → ((m : ℕ) → IsWithin m numbers → AreOfKind n m) → IsWithin n numbers → is_named named token n ≡ false
     → IsCovered named rest token numbers → IsOfCall token n r → AreLikeOn p q direction r
 by_cover p q named rest direction token n numbers r l like fits last kind within unnamed covered of = elim covered [
@@ -194,11 +193,11 @@ by_cover p q named rest direction token n numbers r l like fits last kind within
       like_of_kind p q direction token n m r (words_from m token 0 (0 ∷ 0 ∷ 0 ∷ 0 ∷ 0 ∷ 0 ∷ [])) l.clear_p l.clear_q (kind m one.1) of of_s
       (no_rule named p.rules token n l.first unnamed) (no_rule named q.rules token n l.second unnamed)
       (no_rule named p.rules token m l.first one.2) (no_rule named q.rules token m l.second one.2)
-      (named_like (λ t k. AreLikeOnCall p q t k direction) rest token m like one.3 (words_from m token 0 (0 ∷ 0 ∷ 0 ∷ 0 ∷ 0 ∷ 0 ∷ [])) of_s)
+      (like m one.3 (words_from m token 0 (0 ∷ 0 ∷ 0 ∷ 0 ∷ 0 ∷ 0 ∷ [])) of_s)
 ]
 
 by_token : (p q : Policy) (named rest : List Call) (direction : Direction) (token n : ℕ) (r : List ℕ) → AreListed p q named rest
-    → All (λ call. AreLikeOnCall p q call.token call.nr direction) rest → token < 2 ^ 32 → n < 2 ^ 32 → is_named named token n ≡ false
+    → ((m : ℕ) → is_named rest token m ≡ true → AreLikeOnCall p q token m direction) → token < 2 ^ 32 → n < 2 ^ 32 → is_named named token n ≡ false
     → AreCovered named rest token → IsOfCall token n r → AreLikeOn p q direction r
 by_token p q named rest direction token n r l like fits small unnamed covered of =
     elim (cases_lt n 0x40000000) [
@@ -247,8 +246,8 @@ by_none p q direction token n r clear_p clear_q of none = λ v w one other.
     (each_record_is_said_one_verdict q r w clear_q of.is_record).0 other ∙ said_foreign q token n r of (none_native token n none q.machines) in
     ap (λ x. tells direction x w) v_is ∙ ap (λ x. tells direction 0 x) w_is ∙ never_unlike direction
 
-by_machine : (p q : Policy) (named rest : List Call) (direction : Direction) (token n : ℕ) (r : List ℕ) → AreListed p q named rest
-    → All (λ call. AreLikeOnCall p q call.token call.nr direction) rest → token < 2 ^ 32 → n < 2 ^ 32 → is_named named token n ≡ false
+pub by_machine : (p q : Policy) (named rest : List Call) (direction : Direction) (token n : ℕ) (r : List ℕ) → AreListed p q named rest
+    → ((m : ℕ) → is_named rest token m ≡ true → AreLikeOnCall p q token m direction) → token < 2 ^ 32 → n < 2 ^ 32 → is_named named token n ≡ false
     → IsOfCall token n r → AreLikeOn p q direction r
 by_machine p q named rest direction token n r l like fits small unnamed of =
     let go : (t : ℕ) → AreCovered named rest t → token ≡ t → AreLikeOn p q direction r = λ t covered is.
@@ -265,17 +264,4 @@ by_machine p q named rest direction token n r l like fits small unnamed of =
           ]
         ]
       ]
-    ]
-
-pub stand_for_all : (p q : Policy) (named rest : List Call) → AreListed p q named rest → StandForAll p q (named ++ rest)
-stand_for_all p q named rest l = λ direction like r is.
-    let P : Call → Type 0 = λ call. AreLikeOnCall p q call.token call.nr direction in
-    let token = word r 1 in
-    let n = word r 0 in
-    let of : IsOfCall token n r = record { is_record = is; machine = refl; number = refl } in
-    elim (cases_Bool (is_named named token n)) [
-      | inl yes_named ↦
-          named_like (λ t k. AreLikeOnCall p q t k direction) named token n (all_left P named rest like) yes_named r of
-      | inr unnamed ↦
-          by_machine p q named rest direction token n r l (all_right P named rest like) (is.words 1) (is.words 0) unnamed of
     ]

@@ -152,7 +152,7 @@ find_first test (x ∷ xs) = elim (cases_Bool (test x)) [
   | inr miss ↦ rw miss (find_first test xs)
 ]
 
-open_matches : (token nr : ℕ) (r : List ℕ) (rule : Rule) → IsOfCall token nr r → is_open token nr 6 r rule ≡ matches rule r
+pub open_matches : (token nr : ℕ) (r : List ℕ) (rule : Rule) → IsOfCall token nr r → is_open token nr 6 r rule ≡ matches rule r
 open_matches token nr r rule of =
     let conditions : list_all (met_before 6 r) rule.conds.items ≡ list_all (λ c. meets c (argument_of r c.index)) rule.conds.items =
     all_agree (met_before 6 r) (λ c. meets c (argument_of r c.index))

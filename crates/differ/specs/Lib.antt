@@ -1,5 +1,6 @@
 pub mod Cells
 pub mod Direction
 pub mod OnCall
+pub mod Differences
 pub mod inner
 pub mod Everywhere

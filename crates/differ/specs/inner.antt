@@ -1,3 +1,4 @@
 pub mod Branch
 pub mod Open
 pub mod Named
+pub mod Extended

@@ -1,5 +1,7 @@
 //! Numbers that begin with given bits.
-ghost use Rattle.std.specs.Prelude.{◌≡◌, ◌<◌, ◌≤◌, ◌-◌, ◌^◌, ◌⊎◌, ◌↔◌, ◌++◌, ◌∷◌, [], ℕ, false, length, IsTrue, IfOk, IfErr, All};
+ghost use Rattle.std.specs.Prelude.{◌≡◌, ◌<◌, ◌≤◌, ◌-◌, ◌^◌, ◌⊎◌, ◌↔◌, ◌++◌, ◌∷◌, [], ℕ, List, false, length, IsTrue, IfOk, IfErr, All};
+ghost use Rattle.std.specs.List.{Contains};
+ghost use Rattle.profile.specs.declared.conditions.Cond.{Cond as TheCond};
 ghost use Rattle.profile.specs.declared.conditions.Op.TheVariants.{MaskedEq};
 ghost use Rattle.differ.specs.Cells.{AreApart, IsMet, most_cells};
 ghost use Rattle.differ.specs.inner.Branch.{AllBegin, AreBranch, IsDecided, IsFull, IsUnadded, Narrows, Overlooks};
@@ -26,6 +28,52 @@ fn is_open(cond: &Cond, high: u64, rest: u32) -> bool
     cond.value >> rest == high
 }
 
+fn is_same_op(one: Op, other: Op) -> bool
+    ensures { IsTrue result → one ≡ other }
+{
+    one == other
+}
+
+// Whether two conditions are one.
+fn is_same(one: &Cond, other: &Cond) -> bool
+    ensures { IsTrue result → one.now ≡ other.now }
+{
+    if !is_same_op(one.op, other.op) {
+        return false;
+    }
+    if one.index != other.index {
+        return false;
+    }
+    if one.value != other.value {
+        return false;
+    }
+    one.datum == other.datum
+}
+
+// Whether a condition is one of these.
+fn has(kept: &[Cond], cond: &Cond) -> bool
+    ensures { IsTrue result → Contains kept.now cond.now }
+{
+    for other in kept {
+        if is_same(other, cond) {
+            return true;
+        }
+    }
+    false
+}
+
+// Keeps a condition, once.
+fn keep(kept: &mut Vec<Cond>, cond: &Cond) -> Result<(), AllocError>
+    ensures { (high rest : ℕ) (conds : List TheCond) → Narrows high rest conds kept.old.items
+        → IfOk result (λ _. Narrows high rest (conds ++ cond.now ∷ []) kept.new.items) }
+{
+    if has(kept, cond) {
+        return Ok(());
+    }
+    kept.push(*cond)?;
+    Ok(())
+}
+
 // The conditions that may do so.
 fn still_open(alloc: Global, conds: &[Cond], high: u64, rest: u32) -> Result<Vec<Cond>, AllocError>
     requires { rest < 64 }
@@ -34,7 +82,7 @@ fn still_open(alloc: Global, conds: &[Cond], high: u64, rest: u32) -> Result<Vec
     let mut kept = Vec::new(alloc);
     for cond in conds {
         if is_open(cond, high, rest) {
-            kept.push(*cond)?;
+            keep(&mut kept, cond)?;
         }
     }
     Ok(kept)

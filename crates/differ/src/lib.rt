@@ -7,15 +7,17 @@ mod begun;
 mod direction;
 mod everywhere;
 mod found;
+mod gathered;
 mod listed;
 mod named;
 mod on_call;
 mod opened;
+mod same;
 mod walk;
 
 pub use direction::Direction;
-pub use everywhere::{Settled, calls, differ};
 pub use found::Found;
+pub use gathered::{Differences, all_differences, differences_in};
 pub use listed::{MOST_CELLS, Unlisted, cells};
 pub use named::Call;
 pub use on_call::{MOST_COMBINATIONS, differ_on};

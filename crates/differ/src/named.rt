@@ -22,8 +22,8 @@ fn is_call(call: &Call, token: u32, nr: u32) -> bool
     token == call.token && nr == call.nr
 }
 
-// Whether a call is named.
-fn is_named(list: &[Call], token: u32, nr: u32) -> bool
+/// Whether a call is named.
+pub(crate) fn is_named(list: &[Call], token: u32, nr: u32) -> bool
     ensures { result ≡ is_named list.now token nr }
 {
     list.iter().any(|call| is_call(call, token, nr))

@@ -8,6 +8,7 @@ use crate::direction::Direction;
 use crate::found::{Found, found_on};
 use crate::listed::{Unlisted, cells};
 use crate::opened::{Open, conditions_at, open_with};
+use crate::same::agree_by;
 use call_record::{Record, words_are_a_record};
 use call_tables::is_narrow;
 use profile::Profile;
@@ -106,6 +107,9 @@ pub(crate) fn walk(
     ensures stopped { IfErr result (IsStopped budget.old.limited call.now.arch held.now) }
     ensures limited { budget.new.limited ≡ budget.old.limited }
 {
+    if agree_by(first, second, held, call.arch, call.nr) {
+        return Ok(None);
+    }
     if index == 6 {
         spend(budget)?;
         return Ok(at_end(first, second, direction, held, call));

@@ -3,9 +3,9 @@ use Rattle.std.proofs.Common.{◌≡◌, ◌≤◌, ◌<◌, ℕ, List, [], ◌�
 use Rattle.std.specs.Prelude.{Option, None, Some, Result, IfOk, IfSome}
 use Rattle.call_tables.specs.declared.arch.Arch.{Arch}
 use Rattle.call_record.specs.declared.layout.Record.{Record}
-use Rattle.explain.specs.script.Commands.{Command, Create, Start, Delete, State, Kill, Call}
-use Rattle.explain.specs.script.Grammar.{LineIs}
-use Rattle.explain.specs.script.Laws.{OneCommand}
+use Rattle.script.specs.Commands.{Command, Create, Start, Delete, State, Kill, Call}
+use Rattle.script.specs.Grammar.{LineIs}
+use Rattle.script.specs.Laws.{OneCommand}
 use Rattle.explain.specs.Asked.{IsAsked, IsByBytes, IsCall, IsOnLine, IsSpelled, are_bytes, called_by}
 use Rattle.explain.specs.inner.Found.{IsRecordIn}
 

@@ -5,8 +5,9 @@ use denote.Ref.{Bor}
 use Rattle.call_tables.specs.declared.arch.Arch.{Arch}
 use Rattle.call_record.specs.declared.layout.Record.{Record}
 use Rattle.explain.specs.Asked.{IsAsked}
-use Rattle.explain.specs.Told.{IsRecorded, TellsLine}
-use Rattle.explain.specs.declared.told.Told.{Told}
+use Rattle.wording.specs.Told.{TellsLine}
+use Rattle.explain.specs.Told.{IsRecorded}
+use Rattle.wording.specs.declared.told.Told.{Told}
 
 pub no_call : {E : Type 0} (native : Arch) (given : List (Bor (List ℕ))) (r : Result Told E) → ((x : Record) → IsAsked native given x → ⊥)
     → IfOk r (TellsLine (codes "refused " ++ codes "call")) → IfOk r (IsRecorded native given)

@@ -4,9 +4,9 @@ use Rattle.std.specs.Prelude.{Option, None, Some, IfSome, codes}
 use Rattle.call_tables.specs.declared.arch.Arch.{Arch}
 use Rattle.explain.specs.Any.{IsWhat}
 use Rattle.explain.specs.inner.Found.{call_of}
-use Rattle.explain.specs.script.Commands.{Command, Create, Start, Delete, State, Kill, Call}
-use Rattle.explain.specs.script.Grammar.{LineIs}
-use Rattle.explain.specs.script.Laws.{OneCommand}
+use Rattle.script.specs.Commands.{Command, Create, Start, Delete, State, Kill, Call}
+use Rattle.script.specs.Grammar.{LineIs}
+use Rattle.script.specs.Laws.{OneCommand}
 
 module _ (native : Arch) (line word : List ℕ) (same : line ≡ codes "call c 1 " ++ word) where
   pub what_found : (command : Command) → LineIs native line (Some command)

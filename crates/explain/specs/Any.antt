@@ -11,13 +11,13 @@ use Rattle.call_tables.specs.Numbers.{has_call}
 use Rattle.profile.specs.declared.conditions.Cond.{Cond}
 use Rattle.profile.specs.declared.rules.Rule.{Rule}
 use Rattle.profile.specs.Policy.{Policy}
-use Rattle.explain.specs.script.Grammar.{LineIs}
-use Rattle.explain.specs.script.Commands.{Call}
-use Rattle.explain.specs.declared.told.Told.{Told}
-use Rattle.explain.specs.Phrases.{action_text, call_on, condition_text, machine_with}
-use Rattle.explain.specs.Reason.{entry_at}
-use Rattle.explain.specs.Told.{RefusesBundle, TellsLine}
-use Rattle.explain.specs.Understood.{IsReadAs}
+use Rattle.script.specs.Grammar.{LineIs}
+use Rattle.script.specs.Commands.{Call}
+use Rattle.wording.specs.declared.told.Told.{Told}
+use Rattle.wording.specs.Phrases.{action_text, call_on, condition_text, machine_with}
+use Rattle.wording.specs.Reason.{entry_at}
+use Rattle.wording.specs.Told.{RefusesBundle, TellsLine}
+use Rattle.wording.specs.Understood.{IsReadAs}
 
 -- conditions, the first behind `if` and the others behind `and`
 abbrev pub conditions_text : List ℕ → List Cond → List ℕ

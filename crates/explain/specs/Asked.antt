@@ -10,8 +10,8 @@ use Rattle.call_tables.specs.Arch.{token_of}
 use Rattle.call_record.specs.declared.layout.Record.{Record}
 use Rattle.call_record.specs.Record.{words}
 use Rattle.call_record.specs.Words.{words_of}
-use Rattle.explain.specs.script.Grammar.{LineIs}
-use Rattle.explain.specs.script.Commands.{Call}
+use Rattle.script.specs.Grammar.{LineIs}
+use Rattle.script.specs.Commands.{Call}
 
 -- the line of a script that the command line arguments make: a call of the first task of a container c
 abbrev pub line_of : List (Bor (List ℕ)) → List ℕ

@@ -2,7 +2,7 @@
 use Rattle.std.specs.Prelude.{◌≡◌, ℕ, List}
 use Rattle.call_tables.specs.declared.arch.Arch.{Arch}
 use Rattle.explain.specs.declared.telling.Explainer.{Explainer}
-use Rattle.explain.specs.Understood.{IsReadAs}
+use Rattle.wording.specs.Understood.{IsReadAs}
 
 -- it is what the bundle is read as on the native machine
 pub record Reads (native : Arch) (bundle : List ℕ) (e : Explainer) : Type 0 where

@@ -14,11 +14,11 @@ use Rattle.profile.specs.declared.rules.Rule.{Rule}
 use Rattle.profile.specs.Rule.{is_narrow_rule}
 use Rattle.profile.specs.Policy.{Policy, Says}
 use Rattle.profile.specs.Said.{matches, meets}
-use Rattle.explain.specs.declared.reason.Reason.{Reason}
-use Rattle.explain.specs.declared.reason.Reason.TheVariants.{Foreign, Entry, Default}
-use Rattle.explain.specs.Reason.{entry_at, reason_of}
-use Rattle.explain.specs.Phrases.{action_text, call_lines, condition_text, verdict_line}
-use Rattle.explain.specs.Understood.{IsReadAs}
+use Rattle.wording.specs.declared.reason.Reason.{Reason}
+use Rattle.wording.specs.declared.reason.Reason.TheVariants.{Foreign, Entry, Default}
+use Rattle.wording.specs.Reason.{entry_at, reason_of}
+use Rattle.wording.specs.Phrases.{action_text, call_lines, condition_text, verdict_line}
+use Rattle.wording.specs.Understood.{IsReadAs}
 
 abbrev pub reason_line : Reason → List ℕ
 reason_line Foreign = codes "why foreign" ++ line_feed ∷ []

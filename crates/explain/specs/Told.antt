@@ -1,8 +1,7 @@
 -- What commands answer.
-use Rattle.std.specs.Prelude.{ℕ, ◌≡◌, ◌≢◌, ◌⊎◌, true, false, List, [], ◌∷◌, ◌++◌, None, IfSome, length, codes}
+use Rattle.std.specs.Prelude.{ℕ, ◌≡◌, ◌≢◌, ◌⊎◌, true, List, ◌++◌, None, length, codes}
 use Rattle.std.specs.Str.{IsUtf8}
 use denote.Ref.{Bor}
-use Rattle.texts.specs.Lines.{line_feed}
 use Rattle.call_tables.specs.declared.arch.Arch.{Arch}
 use Rattle.call_record.specs.declared.layout.Record.{Record}
 use Rattle.call_record.specs.Record.{words}
@@ -13,25 +12,10 @@ use Rattle.bpf_asm.specs.Faults.{Explains as IsListingFault}
 use Rattle.bpf_asm.specs.Listing.{listing}
 use Rattle.bpf_asm.specs.declared.fault.AsmError.{AsmError}
 use Rattle.bpf_asm.specs.declared.fault.AsmError.TheVariants.{OutOfMemory as NoMemory}
-use Rattle.profile_json.specs.Breaks.{Breaks}
-use Rattle.profile_json.specs.Fault.{fault_of, text_of}
-use Rattle.profile_json.specs.declared.fault.ProfileError.{ProfileError}
-use Rattle.profile_json.specs.declared.fault.ProfileError.TheVariants.{OutOfMemory}
-use Rattle.explain.specs.declared.told.Told.{Told}
+use Rattle.wording.specs.Told.{RefusesBundle, TellsLine, TellsText}
+use Rattle.wording.specs.declared.told.Told.{Told}
 use Rattle.explain.specs.Asked.{IsCall, IsAsked}
 use Rattle.explain.specs.Explanation.{Explains}
-
--- nothing was done, and this line is told
-pub record TellsLine (line : List ℕ) (told : Told) : Type 0 where
-  pub bytes : told.bytes.items ≡ line ++ line_feed ∷ []
-  pub done : told.done ≡ false
-
--- the bundle is refused for a fault that it has, and the line that says so is told
-pub record RefusesBundle (native : Arch) (bundle : List ℕ) (told : Told) : Type 0 where
-  pub error : ProfileError
-  pub is_fault : error ≢ OutOfMemory
-  pub stands : IfSome (fault_of error) (Breaks bundle native)
-  pub tells : TellsLine (codes "refused profile " ++ text_of error) told
 
 -- there is no record that is asked for, and the line that says so is told
 pub record RefusesCall (Asks : Record → Type 0) (told : Told) : Type 0 where
@@ -80,11 +64,6 @@ pub record RefusesBytes (text : List ℕ) (told : Told) : Type 0 where
 
 abbrev pub IsAssembled : List ℕ → Told → Type 0
 IsAssembled text told = RefusesBytes text told ⊎ (RefusesListing text told ⊎ TellsProgram text told)
-
--- it was done: the text is told
-pub record TellsText (text : List ℕ) (told : Told) : Type 0 where
-  pub bytes : told.bytes.items ≡ text
-  pub done : told.done ≡ true
 
 -- the edition of the program, what it reads, and with what it was proved
 abbrev pub IsVersion : Told → Type 0

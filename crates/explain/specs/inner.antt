@@ -1,3 +1,3 @@
 pub mod Found
-pub mod Reading
-pub mod Sizes
+pub mod Events
+pub mod Times

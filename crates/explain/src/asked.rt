@@ -3,14 +3,14 @@ ghost use Rattle.std.specs.Prelude.{◌≡◌, ◌++◌, ◌∷◌, IfOk, IfSome
 ghost use Rattle.std.specs.List.{flat_map, list_any};
 ghost use Rattle.texts.specs.Lines.{space};
 ghost use Rattle.call_record.specs.declared.layout.Record.{Record as TheRecord};
-ghost use Rattle.explain.specs.script.Requests.{command_of};
+ghost use Rattle.script.specs.Requests.{command_of};
 ghost use Rattle.explain.specs.Asked as spec;
 ghost use Rattle.explain.specs.inner.Found.{IsRecordIn};
 
-use crate::script::{Request, one_command, read_line};
 use call_record::Record;
 use call_tables::Arch;
 use hex::FromHex;
+use script::{Request, one_command, read_line};
 use std::alloc::{AllocError, Global};
 
 fn has_space(argument: &str) -> bool

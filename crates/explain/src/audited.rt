@@ -2,6 +2,7 @@
 mod answers;
 mod any;
 mod auditing;
+mod events;
 mod fields;
 mod lines;
 mod what;

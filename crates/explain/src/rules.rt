@@ -4,16 +4,15 @@ ghost use Rattle.std.specs.List.{flat_map};
 ghost use Rattle.call_tables.specs.Width as width;
 ghost use Rattle.profile.specs.Said.{meets};
 ghost use Rattle.explain.specs.Explanation as spec;
-ghost use Rattle.explain.specs.Reason.{entry_at};
+ghost use Rattle.wording.specs.Reason.{entry_at};
 
-use crate::phrases::{ActionText, ConditionText};
-use crate::reason::{entry_at, is_match};
 use call_record::Record;
 use call_tables::compared;
 use profile::{Cond, Rule};
 use profile_json::EntryRules;
 use std::alloc::AllocError;
 use std::fmt::Write;
+use wording::{ActionText, ConditionText, entry_at, is_match};
 
 // Whether a condition holds of what is compared of its argument.
 fn holds(cond: &Cond, narrow: bool, args: &[u64; 6]) -> bool

@@ -4,14 +4,11 @@ ghost use Rattle.call_record.specs.Record.{words};
 ghost use Rattle.call_tables.specs.Arch.{family_of};
 ghost use Rattle.profile.specs.Policy.{Says};
 ghost use Rattle.explain.specs.Explanation as spec;
-ghost use Rattle.explain.specs.Reason.{reason_of};
-ghost use Rattle.explain.specs.Phrases.{verdict_line};
+ghost use Rattle.wording.specs.Reason.{reason_of};
+ghost use Rattle.wording.specs.Phrases.{verdict_line};
 ghost use Rattle.profile_json.specs.Breaks.{Breaks};
 ghost use Rattle.profile_json.specs.Fault.{fault_of};
 
-use crate::calls::put_record;
-use crate::phrases::ActionText;
-use crate::reason::{Reason, reason_of};
 use crate::rules::put_rules;
 use call_record::{Record, Word};
 use call_tables::{Arch, Family};
@@ -19,6 +16,7 @@ use profile::Profile;
 use profile_json::{EntryRules, ProfileError, read_bundle, rules_by_entry};
 use std::alloc::{AllocError, Global};
 use std::fmt::Write;
+use wording::{ActionText, Reason, put_record, reason_of};
 
 // Adds the line of a verdict.
 fn put_verdict(text: &mut String, word: Word) -> Result<(), AllocError>

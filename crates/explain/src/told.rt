@@ -5,27 +5,19 @@ ghost use Rattle.bpf_asm.specs.declared.fault.AsmError.TheVariants.{OutOfMemory 
 ghost use Rattle.call_record.specs.Record.{words as words_in};
 ghost use Rattle.call_record.specs.Words.{words_of};
 ghost use Rattle.explain.specs.Told as spec;
-ghost use Rattle.profile_json.specs.Fault.{text_of};
-ghost use Rattle.profile_json.specs.declared.fault.ProfileError.TheVariants.{OutOfMemory};
+ghost use Rattle.wording.specs.Told.{TellsLine};
 
 use crate::asked::{asked, call_in};
 use crate::telling::explanation;
 use bpf_asm::{AsmError, assemble};
 use call_record::Record;
 use call_tables::Arch;
-use profile_json::ProfileError;
 use std::alloc::{AllocError, Global};
-
-/// What a command answers: bytes for standard output, and whether it did what it was asked for.
-#[derive(Drop)]
-pub struct Told {
-    pub bytes: Vec<u8>,
-    pub done: bool,
-}
+use wording::{Told, refused_profile};
 
 // The line that tells why a command did not do what it was asked for.
 fn refused(alloc: Global, why: &str) -> Result<Told, AllocError>
-    ensures { IfOk result (spec.TellsLine (codes "refused " ++ why.now)) }
+    ensures { IfOk result (TellsLine (codes "refused " ++ why.now)) }
 {
     let line = format!(in alloc; "refused {why}\n")?;
     Ok(Told {
@@ -34,25 +26,9 @@ fn refused(alloc: Global, why: &str) -> Result<Told, AllocError>
     })
 }
 
-/// The line that tells why a bundle is refused. Want of memory is no reason, and an error here.
-pub fn refused_profile(alloc: Global, error: ProfileError) -> Result<Told, AllocError>
-    ensures told { IfOk result (spec.TellsLine (codes "refused profile " ++ text_of error)) }
-    ensures fault { IfOk result (λ told. error ≢ OutOfMemory) }
-    ensures done { IfOk result (λ told. told.done ≡ false) }
-{
-    if let ProfileError::OutOfMemory = error {
-        return Err(AllocError);
-    }
-    let line = format!(in alloc; "refused profile {error}\n")?;
-    Ok(Told {
-        bytes: line.into_bytes(),
-        done: false,
-    })
-}
-
 // The line that tells why a text is no listing.
 fn refused_listing(alloc: Global, error: AsmError) -> Result<Told, AllocError>
-    ensures told { IfOk result (spec.TellsLine (codes "refused listing " ++ asm_text error)) }
+    ensures told { IfOk result (TellsLine (codes "refused listing " ++ asm_text error)) }
     ensures fault { IfOk result (λ told. error ≢ NoMemory) }
 {
     if let AsmError::OutOfMemory = error {

@@ -1,4 +1,3 @@
-pub mod CheckedLaws
 pub mod TableLaws
 pub mod CompiledLaws
 pub mod RightLaws
@@ -7,4 +6,4 @@ mod BundleLaws
 mod ExportLaws
 mod FindingLaws
 pub mod PlainLaws
-mod EvidenceLaws
+pub mod EvidenceLaws

@@ -1,4 +1,3 @@
 pub mod Tables
-pub mod AtHand
 pub mod Conviction
 pub mod Right

@@ -81,8 +81,8 @@ fn judged(alloc: Global, profile: &Profile, program: &Accepted<'_>) -> Result<Ev
     }
 }
 
-// What is judged of a profile and the bytes of a filter.
-fn judge_filter(alloc: Global, profile: &Profile, filter: &[u8]) -> Result<Evidence, Unready>
+/// The evidence on the bytes of a filter, beside the profile that a bundle means. Whoever has read the bundle has it judged by this.
+pub fn judge_filter(alloc: Global, profile: &Profile, filter: &[u8]) -> Result<Evidence, Unready>
     ensures found { (native : TheArch) (bundle : List ℕ) → IsBundle native bundle profile.now
         → IsJudgement native bundle filter.now result }
     ensures own { (native : TheArch) (bundle : List ℕ) → IsOwnFilter native bundle filter.now profile.now → IsOwnJudgement result }

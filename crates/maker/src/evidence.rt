@@ -5,7 +5,7 @@
 //! which the compiler makes of a profile with conditions, the certificate is written from the compiler's outline, by `outline`. Of
 //! any other filter each path is followed, by `certify`, which gives a certificate or a record; for profiles without conditions
 //! it is proved that the certificate is found. Where the paths are too many, the outline of the compiler's filter is tried, and then
-//! `search` looks for a record.
+//! `record_search` looks for a record.
 mod asked;
 mod evidence;
 mod hand;
@@ -14,9 +14,7 @@ mod maker;
 mod own;
 
 pub(crate) use asked::has_too_many;
-pub(crate) use evidence::judge;
-pub use evidence::{Conviction, Evidence, convict};
+pub use evidence::{Conviction, Evidence, judge};
 pub use law::{compiled_is_right, shape_is_right, table_profiles_are_plain};
-pub use maker::certified;
-pub(crate) use maker::{propose, propose_shared};
-pub(crate) use own::shortened;
+pub(crate) use maker::{are_plain, propose, propose_shared};
+pub(crate) use own::{bytes_of, shortened};

@@ -1,6 +1,6 @@
 //! What is judged and made of a bundle, a filter and a certificate, and what each command writes of them: `verdict`, `check`,
 //! `certify` (`certifying`) and `export` (`exporting`). `slot` has the way from a bundle to its checked filter, and `evidence` that
-//! from a filter to its certificate, or to a record that convicts it. `outline` and `search`, of which it takes both, promise nothing.
+//! from a filter to its certificate, or to a record that convicts it. `outline` and `record_search`, of which it takes both, promise nothing.
 //! The checker stands on none of this.
 #![tactic(auto)]
 
@@ -9,20 +9,17 @@ mod check;
 mod evidence;
 mod exporting;
 mod law;
-mod outline;
 mod own;
 mod proposal;
-mod search;
 mod shorter;
 mod slot;
 mod unready;
 mod verdict;
 
-pub use certifying::{certify_bundle, judge_bundle, line_of, write_judged};
+pub use certifying::{certify_bundle, judge_bundle, judge_filter, line_of, write_judged};
 pub use check::{Finding, check_line, finding_of};
 pub use evidence::{
-    Conviction, Evidence, certified, compiled_is_right, convict, shape_is_right,
-    table_profiles_are_plain,
+    Conviction, Evidence, compiled_is_right, judge, shape_is_right, table_profiles_are_plain,
 };
 pub use exporting::export_bundle;
 pub use law::{bundles_are_plain, evidence_excludes, findings_exclude, one_answer};

@@ -4,10 +4,10 @@ ghost use Rattle.std.specs.Prelude.{◌≡◌, IfErr};
 ghost use Rattle.certify.specs.declared.error.CertifyError.TheVariants as maker;
 ghost use Rattle.maker.specs.declared.unready.Unready.TheVariants.{OutOfMemory};
 
-use crate::evidence::{has_too_many, propose_shared, shortened};
+use crate::evidence::{are_plain, bytes_of, has_too_many, propose_shared, shortened};
 use crate::proposal::Proposal;
 use crate::unready::Unready;
-use bpf_insn::{MAX_INSNS, Program, encode_into};
+use bpf_insn::Program;
 use certify::{CertifyError, certify_accepted};
 use kernel_check::{Accepted, accept};
 use profile::Profile;
@@ -49,16 +49,16 @@ fn own_if_plain(
     profile: &Profile,
     own: &Planned,
 ) -> Result<Option<Shorter>, AllocError> {
-    let is_plain = profile.rules().iter().all(|rule| rule.conds.is_empty());
-    if !is_plain || own.insns.len() > MAX_INSNS {
+    if !are_plain(profile.rules()) {
         return Ok(None);
     }
-    let mut bytes = vec![in alloc; 0u8; 8 * own.insns.len()]?;
-    encode_into(&own.insns, &mut bytes);
-    Ok(Some(Shorter {
-        bytes,
-        known: Known::AsOwn,
-    }))
+    match bytes_of(alloc, &own.insns)? {
+        Some(bytes) => Ok(Some(Shorter {
+            bytes,
+            known: Known::AsOwn,
+        })),
+        None => Ok(None),
+    }
 }
 
 // The filter that is proposed first, if there is one.

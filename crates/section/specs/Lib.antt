@@ -1,3 +1,6 @@
 pub mod Kinds
 pub mod Texts
+pub mod Remarks
+pub mod Members
+pub mod Unread
 pub mod Sections

@@ -6,13 +6,13 @@ use Rattle.call_tables.specs.declared.arch.Family.{Family}
 use Rattle.call_tables.specs.declared.arch.Family.TheVariants.{Chosen, Whole}
 use Rattle.call_tables.specs.Arch.{family_of}
 use Rattle.profile_json.specs.Meaning.{IsText}
-use Rattle.section.specs.Kinds.{kind_of}
+use Rattle.section.specs.Kinds.{kind_of, kind_of_other_text}
 use Rattle.section.specs.declared.kinds.Kind.{Kind}
-use Rattle.section.specs.declared.kinds.Kind.TheVariants.{Bundle, Section, EnginesOwn}
+use Rattle.section.specs.declared.kinds.Kind.TheVariants.{Bundle, Section, EnginesOwn, Kubernetes, KubernetesList, Yaml, NoConfig}
 
--- what the text of the bytes is; no text of a value is a section or an engine's own profile
+-- what the text of the bytes is, by its value, or by how it begins if it is no JSON
 abbrev pub IsKind : List ℕ → Kind → Type 0
-IsKind bytes kind = ((t : Data) × IsText bytes t × (kind ≡ kind_of t)) ⊎ (((t : Data) → ¬ IsText bytes t) × (kind ≡ Bundle))
+IsKind bytes kind = ((t : Data) × IsText bytes t × (kind ≡ kind_of t)) ⊎ (((t : Data) → ¬ IsText bytes t) × (kind ≡ kind_of_other_text bytes))
 
 -- the bundle in which a section stands
 abbrev pub in_bundle : List ℕ → List ℕ
@@ -23,6 +23,10 @@ abbrev pub bundle_of : Kind → List ℕ → List ℕ
 bundle_of Section bytes = in_bundle bytes
 bundle_of Bundle bytes = bytes
 bundle_of EnginesOwn bytes = bytes
+bundle_of Kubernetes bytes = bytes
+bundle_of KubernetesList bytes = bytes
+bundle_of Yaml bytes = bytes
+bundle_of NoConfig bytes = bytes
 
 -- Where the chosen lists of calls are meant, a file is a bundle, whatever stands in it. Where all calls of Linux are, a section is
 -- taken as the bundle in which it stands.

@@ -10,12 +10,20 @@ use serde_json::Value;
 /// What stands in a file that is taken as a bundle.
 #[derive(Clone, Copy, Debug, PartialEq, Eq)]
 pub enum Kind {
-    /// A bundle, or a text that is none of the others.
+    /// A bundle, another config, or a text that is none of the others.
     Bundle,
     /// What stands under `linux.seccomp` in a bundle, by itself.
     Section,
     /// An engine's own profile, of which a container gets a part.
     EnginesOwn,
+    /// An object of Kubernetes with a section under `spec`.
+    Kubernetes,
+    /// A list of objects of Kubernetes.
+    KubernetesList,
+    /// A text of YAML, which is not read.
+    Yaml,
+    /// JSON that is neither a config nor a profile.
+    NoConfig,
 }
 
 // Whether an object has a member.
@@ -66,22 +74,68 @@ fn is_engines_own(value: &Value) -> bool
     has(value, "archMap") || has_conditional(value)
 }
 
-// Whether a default verdict stands at the top, and nothing under `linux`.
-fn is_by_itself(value: &Value) -> bool
-    ensures { result ≡ spec.is_by_itself (view value.now) }
+// Whether a default verdict stands under `spec`, as in an object of Kubernetes.
+fn is_kubernetes(value: &Value) -> bool
+    ensures { result ≡ spec.is_kubernetes (view value.now) }
 {
-    has(value, "defaultAction") && !has(value, "linux")
+    match value.get("spec") {
+        Some(object) => has(object, "defaultAction"),
+        None => false,
+    }
+}
+
+// What has a default verdict at its top.
+fn kind_by_itself(value: &Value) -> Kind
+    ensures { result ≡ spec.kind_by_itself (view value.now) }
+{
+    if is_engines_own(value) {
+        return Kind::EnginesOwn;
+    }
+    Kind::Section
+}
+
+// What has neither that nor a member `linux`.
+fn kind_of_other(value: &Value) -> Kind
+    ensures { result ≡ spec.kind_of_other (view value.now) }
+{
+    if is_kubernetes(value) {
+        return Kind::Kubernetes;
+    }
+    if has(value, "ociVersion") {
+        return Kind::Bundle;
+    }
+    if has(value, "items") {
+        return Kind::KubernetesList;
+    }
+    Kind::NoConfig
 }
 
 /// What a value is.
 pub fn kind_of(value: &Value) -> Kind
     ensures { result ≡ spec.kind_of (view value.now) }
 {
-    if !is_by_itself(value) {
+    if has(value, "linux") {
         return Kind::Bundle;
     }
-    if is_engines_own(value) {
-        return Kind::EnginesOwn;
+    if has(value, "defaultAction") {
+        return kind_by_itself(value);
     }
-    Kind::Section
+    kind_of_other(value)
+}
+
+// Whether a text begins as an object of Kubernetes does in YAML.
+fn is_yaml(bytes: &[u8]) -> bool
+    ensures { result ≡ spec.is_yaml bytes.now }
+{
+    bytes.starts_with(b"apiVersion:") || bytes.starts_with(b"kind:") || bytes.starts_with(b"---")
+}
+
+/// What a text is that is no JSON.
+pub(crate) fn kind_of_other_text(bytes: &[u8]) -> Kind
+    ensures { result ≡ spec.kind_of_other_text bytes.now }
+{
+    if is_yaml(bytes) {
+        return Kind::Yaml;
+    }
+    Kind::Bundle
 }

@@ -1,12 +1,16 @@
 //! What stands in a file that is taken as a bundle: a bundle, the section that engines take as a profile, or an engine's own
-//! profile, from which it works sections out.
+//! profile, from which it works sections out; and what stands in a bundle and is not read.
 #![tactic(auto)]
 
 mod equal;
 mod kinds;
 mod reading;
+mod remarks;
+mod unread;
 mod writing;
 
 pub use kinds::{Kind, kind_of};
 pub use reading::{bundle_text, kind_of_text, put_in_bundle};
+pub use remarks::{line_of, remark_of};
+pub use unread::{ARGUMENT_KEYS, ENTRY_KEYS, SECTION_KEYS, unread_of};
 pub use writing::{keeps_meaning, section_of};

@@ -4,7 +4,7 @@ ghost use Rattle.call_tables.specs.declared.arch.Family.TheVariants.{Whole};
 ghost use Rattle.section.specs.Texts as spec;
 ghost use Rattle.section.specs.Texts.{IsBundleText, IsKind, in_bundle};
 
-use crate::kinds::{Kind, kind_of};
+use crate::kinds::{Kind, kind_of, kind_of_other_text};
 use call_tables::{Arch, Family};
 use serde_json::Value;
 use std::alloc::{AllocError, Global};
@@ -19,7 +19,7 @@ pub fn kind_of_text(alloc: Global, bytes: &[u8]) -> Result<Kind, AllocError>
             if error.is_memory() {
                 return Err(AllocError);
             }
-            Ok(Kind::Bundle)
+            Ok(kind_of_other_text(bytes))
         }
     }
 }
@@ -47,6 +47,10 @@ fn taken_as(alloc: Global, kind: Kind, bytes: Vec<u8>) -> Result<Vec<u8>, AllocE
         Kind::Section => put_in_bundle(alloc, &bytes),
         Kind::Bundle => Ok(bytes),
         Kind::EnginesOwn => Ok(bytes),
+        Kind::Kubernetes => Ok(bytes),
+        Kind::KubernetesList => Ok(bytes),
+        Kind::Yaml => Ok(bytes),
+        Kind::NoConfig => Ok(bytes),
     }
 }
 

@@ -89,8 +89,7 @@ fn is_section_of(
             let bundle = put_in_bundle(alloc, section)?;
             means(alloc, native, &bundle, profile)
         }
-        Kind::Bundle => Ok(false),
-        Kind::EnginesOwn => Ok(false),
+        _ => Ok(false),
     }
 }
 

@@ -8,7 +8,7 @@ use Rattle.call_record.specs.declared.layout.Record.{Record}
 use Rattle.processes.specs.Attached.{attached_of}
 use Rattle.lifecycle.specs.Commands.{Command, id_of}
 use Rattle.lifecycle.specs.Commands as command
-use Rattle.explain.specs.script.Commands as script
+use Rattle.script.specs.Commands as script
 use Rattle.session.specs.declared.bundles.Bundles.{Bundles}
 use Rattle.session.specs.Commands.{Means, first_called, named}
 use Rattle.session.specs.inner.Carried.{id_in}

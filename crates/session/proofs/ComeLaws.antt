@@ -10,7 +10,7 @@ use Rattle.lifecycle.specs.Commands.{Command}
 use Rattle.lifecycle.specs.Steps.{run}
 use Rattle.lifecycle.specs.Worlds.{First}
 use Rattle.lifecycle.proofs.Headline.{same_first}
-use Rattle.explain.specs.script.Lines.{lines_of}
+use Rattle.script.specs.Lines.{lines_of}
 use Rattle.session.specs.declared.bundles.Bundles.{Bundles}
 use Rattle.session.specs.Answer.{answer_of, commands_of, counted}
 use Rattle.session.specs.Commands.{CommandIs, CommandsAre}

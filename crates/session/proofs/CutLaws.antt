@@ -4,9 +4,9 @@ use Rattle.std.specs.Prelude.{not, ◌&&◌, ◌==◌}
 use Rattle.std.specs.List.{join_with_byte, list_all}
 use Rattle.std.proofs.lemmas.Bool.{and_from}
 use Rattle.std.proofs.lemmas.List.Folds.{list_all-append}
-use Rattle.explain.specs.script.Grammar.{lacks}
+use Rattle.script.specs.Grammar.{lacks}
 use Rattle.texts.specs.Lines.{line_feed}
-use Rattle.explain.specs.script.Lines.{Parts, lines_of}
+use Rattle.script.specs.Lines.{Parts, lines_of}
 use Rattle.session.specs.Scripts.{ended_lines}
 use Rattle.session.specs.inner.Cuts.{IsCut, ended}
 

@@ -13,8 +13,8 @@ use Rattle.lifecycle.specs.declared.command.Status.{Status}
 use Rattle.lifecycle.specs.Commands.{Command, id_of}
 use Rattle.lifecycle.specs.Steps.{step}
 use Rattle.lifecycle.specs.Worlds.{World}
-use Rattle.explain.specs.script.Commands as script
-use Rattle.explain.specs.script.Grammar.{LineIs}
+use Rattle.script.specs.Commands as script
+use Rattle.script.specs.Grammar.{LineIs}
 use Rattle.session.specs.declared.bundles.Bundles.{Bundles}
 use Rattle.session.specs.Answer.{counted}
 use Rattle.session.specs.Commands.{CommandIs, Means}

@@ -4,8 +4,8 @@ use Rattle.std.specs.Prelude.{Option, Some, None}
 use Rattle.std.proofs.lemmas.Bool.{cases_lt}
 use Rattle.std.proofs.lemmas.List.{length-take, take-append-le, take_all}
 use Rattle.call_tables.specs.declared.arch.Arch.{Arch}
-use Rattle.explain.specs.script.Commands as script
-use Rattle.explain.specs.script.Grammar.{LineIs}
+use Rattle.script.specs.Commands as script
+use Rattle.script.specs.Grammar.{LineIs}
 use Rattle.lifecycle.specs.Commands.{Command}
 use Rattle.session.specs.declared.bundles.Bundles.{Bundles}
 use Rattle.session.specs.Commands.{CommandIs}

@@ -8,9 +8,9 @@ use Rattle.call_tables.specs.declared.arch.Arch.{Arch}
 use Rattle.processes.specs.Attached.{attached_of}
 use Rattle.lifecycle.specs.Commands.{Command}
 use Rattle.lifecycle.specs.Commands as command
-use Rattle.explain.specs.script.Commands as script
-use Rattle.explain.specs.script.Lines.{LinesAre, Reads, lines_of}
-use Rattle.explain.specs.script.Laws.{OneReading}
+use Rattle.script.specs.Commands as script
+use Rattle.script.specs.Lines.{LinesAre, Reads, lines_of}
+use Rattle.script.specs.Laws.{OneReading}
 use Rattle.session.specs.declared.bundles.Bundles.{Bundles}
 use Rattle.session.specs.Commands.{CommandsAre, IsRecordOf, LineMeans, Means}
 use Rattle.session.specs.Laws.{OneScript}

@@ -17,9 +17,9 @@ use Rattle.lifecycle.specs.Steps.{call, create, delete, first_call, kill, known,
 use Rattle.lifecycle.specs.Worlds.{Container, First, World, container_at}
 use Rattle.texts.specs.Lines.{space}
 use Rattle.call_tables.specs.declared.arch.Arch.{Arch}
-use Rattle.explain.specs.script.Commands as script
-use Rattle.explain.specs.script.Grammar.{IsCommand}
-use Rattle.explain.specs.script.Numbers.{AreBytes}
+use Rattle.script.specs.Commands as script
+use Rattle.script.specs.Grammar.{IsCommand}
+use Rattle.script.specs.Numbers.{AreBytes}
 use Rattle.session.specs.inner.Carried.{Fits}
 use Rattle.session.specs.Wants.{TellsState}
 

@@ -9,8 +9,8 @@ use Rattle.processes.specs.Attached.{attached_of}
 use Rattle.processes.specs.Views.{same_text}
 use Rattle.lifecycle.specs.Commands.{Command}
 use Rattle.lifecycle.specs.Commands as command
-use Rattle.explain.specs.script.Commands as script
-use Rattle.explain.specs.script.Grammar.{LineIs}
+use Rattle.script.specs.Commands as script
+use Rattle.script.specs.Grammar.{LineIs}
 use Rattle.session.specs.declared.bundles.Bundles.{Bundles}
 
 -- each name with its checked filter

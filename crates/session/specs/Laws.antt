@@ -1,7 +1,7 @@
 -- A script means one thing.
 use Rattle.std.specs.Prelude.{ℕ, ◌≡◌, List, Option}
 use Rattle.lifecycle.specs.Commands.{Command}
-use Rattle.explain.specs.script.Lines.{Parts, lines_of}
+use Rattle.script.specs.Lines.{Parts, lines_of}
 use Rattle.session.specs.declared.bundles.Bundles.{Bundles}
 use Rattle.session.specs.Commands.{CommandsAre}
 

@@ -4,7 +4,7 @@ use Rattle.std.specs.Io.KnownBytes.{Appends, Consumes, IsAtEnd}
 use Rattle.texts.specs.Failures.{Failures, HasFailed, NoneFailed}
 use Rattle.processes.specs.First.{by_profile}
 use Rattle.lifecycle.specs.Commands.{Command}
-use Rattle.explain.specs.script.Lines.{Parts, lines_of}
+use Rattle.script.specs.Lines.{Parts, lines_of}
 use Rattle.session.specs.declared.bundles.Bundles.{Bundles}
 use Rattle.session.specs.declared.fault.ScriptFault.{ScriptFault}
 use Rattle.session.specs.declared.fault.ScriptFault.TheVariants.{Read, Write}

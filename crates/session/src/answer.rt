@@ -5,7 +5,7 @@ ghost use Rattle.session.specs.inner.Carried.{AnswersLine};
 
 use crate::carry::{Session, id_named};
 use crate::reply::{write_no_command, write_reply};
-use explain::script::read_line;
+use script::read_line;
 use std::alloc::Global;
 use texts::{Sink, WriteFault};
 

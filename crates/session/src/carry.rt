@@ -4,7 +4,7 @@ ghost use Rattle.std.specs.Option.{option_map};
 ghost use Rattle.std.specs.Vec.{vec_capacity};
 ghost use Rattle.lifecycle.specs.Commands as commands;
 ghost use Rattle.lifecycle.specs.Views.{world_of};
-ghost use Rattle.explain.specs.script.Requests as requests;
+ghost use Rattle.script.specs.Requests as requests;
 ghost use Rattle.session.specs.Commands.{IsRecordOf, Means};
 ghost use Rattle.session.specs.Wants.{WantsMemory};
 ghost use Rattle.session.specs.inner.Carried.{CarriesOut, Fits, Replies, id_in, program_in};
@@ -12,8 +12,8 @@ ghost use Rattle.session.specs.inner.Carried.{CarriesOut, Fits, Replies, id_in, 
 use crate::bundles::Bundles;
 use call_record::Record;
 use call_tables::Arch;
-use explain::script::{Hex, MAX_LINE, Request};
 use lifecycle::{Command, Reply, Runtime};
+use script::{Hex, MAX_LINE, Request};
 use shared_table::SharedTable;
 use std::alloc::{AllocError, Global};
 

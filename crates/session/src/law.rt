@@ -1,7 +1,7 @@
 //! Laws of scripts.
 ghost use Rattle.session.specs.Laws.{OneScript};
 
-use explain::script::one_reading;
+use script::one_reading;
 
 /// A text is one list of commands, a line each, and so has one answer.
 pub fn one_script()

@@ -7,7 +7,7 @@ use crate::answer::answer_line;
 use crate::bundles::Bundles;
 use crate::carry::Session;
 use crate::fault::ScriptFault;
-use explain::script::MAX_LINE;
+use script::MAX_LINE;
 use std::alloc::{AllocError, Global};
 use texts::{Sink, WriteFault};
 

@@ -1,21 +1,24 @@
 -- What functions tell of files, before it is written.
 use Rattle.std.specs.Prelude.{ℕ, ◌≡◌, ◌⊎◌, List, [], ◌∷◌, ◌++◌, Bool, Option, Result, Ok, Err}
 use Rattle.texts.specs.Failures.{Failures}
-use Rattle.explain.specs.declared.told.Told.{Told}
+use Rattle.wording.specs.declared.told.Told.{Told}
 use Rattle.cli.specs.declared.stops.Stop.{Stop}
 use Rattle.call_tables.specs.declared.arch.Arch.{Arch}
 use Rattle.cli.specs.declared.adapting.Both.{Both}
 use Rattle.cli.specs.declared.stops.Stop.TheVariants.{CannotRead, OutOfMemory, Usage}
-use Rattle.explain.specs.learn.Learned.{TellsLearned}
-use Rattle.explain.specs.learn.Wish.{AskFor}
-use Rattle.explain.specs.declared.learn.lists.Otherwise.{Otherwise}
-use Rattle.explain.specs.declared.learn.lists.Runtime.{Runtime}
-use Rattle.explain.specs.declared.learn.reading.Shown.{Shown}
-use Rattle.explain.specs.learn.Taken.{HaveShown}
+use Rattle.explain.specs.Audit.{IsAudited}
+use Rattle.strace_logs.specs.Given.{GivesAll}
+use Rattle.strace_logs.specs.Learned.{TellsLearned}
+use Rattle.strace_logs.specs.Wish.{AskFor}
+use Rattle.strace_logs.specs.declared.lists.Otherwise.{Otherwise}
+use Rattle.strace_logs.specs.declared.lists.Runtime.{Runtime}
+use Rattle.strace_logs.specs.declared.reading.Shown.{Shown}
+use Rattle.strace_logs.specs.Taken.{HaveShown}
 use Rattle.cli.specs.Dispatch.{FirstUnread, HaveBytes, StopsAtLog, WritesTold}
 use Rattle.cli.specs.Files.{Folder, HasBytes}
+use Rattle.cli.specs.Input.{StopsInput}
 use Rattle.cli.specs.Adapted.{AskNothing, IsMadeAs}
-use Rattle.cli.specs.Told.{IsManual, IsNoCommand, IsReplayed, NamesLogs, OfArguments, of_none, of_one}
+use Rattle.cli.specs.Told.{IsManual, IsNoCommand, IsReplayed, NamesLogs, OfArguments, OfBundle, of_none, of_one}
 use Rattle.cli.specs.Written.{IsWritten, NamesForm}
 
 -- the files are read, and what is so of their bytes is told; or the program stops there
@@ -108,3 +111,18 @@ pub record IsLearnedOf (folder : Option Folder) (native : Arch) (words : List (L
   pub made : Result Told Stop
   pub is_made : IsLearnedBundleOf folder native others made
   pub written : IsInForm native as_bundle made told
+
+-- the input is read to its end, and what a bundle says of its lines is told; or the program stops
+abbrev pub TellsAudit : Option (List ℕ) → Option (List ℕ) → Failures → Failures → Arch → List ℕ → Result Told Stop → Type 0
+TellsAudit left left' given given' native bundle (Ok told) =
+    (lines : List ℕ) × GivesAll left left' lines × IsAudited native bundle lines told
+TellsAudit left left' given given' native bundle (Err stop) = StopsInput given given' stop
+
+-- the same of a bundle in a file; where the program stops there, nothing of the input is read
+module _ {I : Type 0} (left : I → Option (List ℕ)) (given : I → Failures) (folder : Option Folder) (old new : I) where
+  abbrev pub IsAuditOf : Arch → List ℕ → Result Told Stop → Type 0
+  IsAuditOf native bundle (Ok told) =
+      (lines : List ℕ) × GivesAll (left old) (left new) lines
+      × IsToldOf folder (bundle ∷ []) (of_one (OfBundle native (λ text. IsAudited native text lines))) (Ok told)
+  IsAuditOf native bundle (Err stop) =
+      (FirstUnread folder (bundle ∷ []) stop × (new ≡ old)) ⊎ StopsInput (given old) (given new) stop

@@ -1,20 +1,23 @@
 //! What is judged of a filter behind a stub.
-ghost use Rattle.std.specs.Prelude.{◌≡◌, IfSome, IsTrue, ℕ, List, Ok};
+ghost use Rattle.std.specs.Prelude.{◌≡◌, IfSome, ℕ, List, Ok};
 ghost use Rattle.call_record.specs.Record.{words};
 ghost use Rattle.call_tables.specs.declared.arch.Arch.{Arch as TheArch};
 ghost use Rattle.maker.specs.declared.evidence.evidence.Conviction.{Conviction as TheConviction};
 ghost use Rattle.maker.specs.declared.evidence.evidence.Evidence.TheVariants.{Convicting};
 ghost use Rattle.maker.specs.Certified.{IsJudgement};
+ghost use Rattle.maker.specs.Finding.{IsBundle};
 ghost use Rattle.maker.specs.Told.{Tells};
 ghost use Rattle.compare.specs.declared.behind_runc.stub.calls.Calls.{Calls as TheCalls};
-ghost use Rattle.compare.specs.Behind.{IsBehind, IsJudgedBehind, MeansSparing, WritesBehind};
+ghost use Rattle.compare.specs.Behind.{IsBehind, IsJudgedBehind, WritesBehind};
+ghost use Rattle.compare.specs.Spared.{Spares};
 
 use crate::behind_runc::behind::Behind;
 use crate::behind_runc::spared::spares;
-use crate::behind_runc::stub::{Calls, is_answered};
+use crate::behind_runc::stub::is_answered;
 use call_record::{Word, words_are_a_record};
 use call_tables::Arch;
-use maker::{Conviction, Evidence, Unready, judge_bundle, refuse, write_judged};
+use maker::{Conviction, Evidence, Unready, judge_filter, refuse, write_judged};
+use profile::Profile;
 use profile_json::read_bundle;
 use std::alloc::Global;
 use texts::{Sink, WriteFault};
@@ -50,65 +53,49 @@ fn of_whole(behind: &Behind<'_>, found: &Conviction) -> Option<Conviction>
     })
 }
 
-// Whether a bundle means a profile that spares the calls that a stub answers.
-fn is_spared(alloc: Global, native: Arch, bundle: &[u8], answered: &[Calls]) -> bool
-    ensures { IsTrue result → MeansSparing native bundle.now answered.now }
-{
-    match read_bundle(alloc, bundle, native) {
-        Ok(read) => spares(&read.profile, answered),
-        Err(_) => false,
-    }
-}
-
 // What is judged of the whole filter.
-fn judge_whole(alloc: Global, native: Arch, bundle: &[u8], filter: &[u8]) -> Judged
-    ensures { (rest : List ℕ) (answered : List TheCalls)
-        → IsJudgedBehind native bundle.now filter.now rest answered result.whole result.evidence }
+fn judge_whole(alloc: Global, profile: &Profile, filter: &[u8]) -> Judged
+    ensures { (native : TheArch) (bundle rest : List ℕ) (answered : List TheCalls) → IsBundle native bundle profile.now
+        → IsJudgedBehind native bundle filter.now rest answered result.whole result.evidence }
 {
     Judged {
         whole: true,
-        evidence: judge_bundle(alloc, native, bundle, filter),
+        evidence: judge_filter(alloc, profile, filter),
     }
 }
 
 // What is judged where a record was found that convicts the rest.
 fn judge_found(
     alloc: Global,
-    native: Arch,
-    bundle: &[u8],
+    profile: &Profile,
     filter: &[u8],
     behind: &Behind<'_>,
     found: &Conviction,
 ) -> Judged
     requires behind { IsBehind filter.now behind.now.rest.now behind.now.answered.items }
-    requires found { IsJudgement native bundle.now behind.now.rest.now (Ok (Convicting found.now)) }
-    ensures { IsJudgedBehind native bundle.now filter.now behind.now.rest.now behind.now.answered.items result.whole result.evidence }
+    requires found { (native : TheArch) (bundle : List ℕ) → IsBundle native bundle profile.now
+        → IsJudgement native bundle behind.now.rest.now (Ok (Convicting found.now)) }
+    ensures { (native : TheArch) (bundle : List ℕ) → IsBundle native bundle profile.now
+        → IsJudgedBehind native bundle filter.now behind.now.rest.now behind.now.answered.items result.whole result.evidence }
 {
     match of_whole(behind, found) {
         Some(whole) => Judged {
             whole: false,
             evidence: Ok(Evidence::Convicting(whole)),
         },
-        None => judge_whole(alloc, native, bundle, filter),
+        None => judge_whole(alloc, profile, filter),
     }
 }
 
-// What is judged where the bundle spares the calls that the stub answers.
-fn judge_rest(
-    alloc: Global,
-    native: Arch,
-    bundle: &[u8],
-    filter: &[u8],
-    behind: &Behind<'_>,
-) -> Judged
+// What is judged where the profile spares the calls that the stub answers.
+fn judge_rest(alloc: Global, profile: &Profile, filter: &[u8], behind: &Behind<'_>) -> Judged
     requires behind { IsBehind filter.now behind.now.rest.now behind.now.answered.items }
-    requires spared { MeansSparing native bundle.now behind.now.answered.items }
-    ensures { IsJudgedBehind native bundle.now filter.now behind.now.rest.now behind.now.answered.items result.whole result.evidence }
+    requires spared { Spares profile.now behind.now.answered.items }
+    ensures { (native : TheArch) (bundle : List ℕ) → IsBundle native bundle profile.now
+        → IsJudgedBehind native bundle filter.now behind.now.rest.now behind.now.answered.items result.whole result.evidence }
 {
-    match judge_bundle(alloc, native, bundle, behind.rest) {
-        Ok(Evidence::Convicting(found)) => {
-            judge_found(alloc, native, bundle, filter, behind, &found)
-        }
+    match judge_filter(alloc, profile, behind.rest) {
+        Ok(Evidence::Convicting(found)) => judge_found(alloc, profile, filter, behind, &found),
         Ok(Evidence::Certificate(certificate)) => Judged {
             whole: false,
             evidence: Ok(Evidence::Certificate(certificate)),
@@ -118,6 +105,18 @@ fn judge_rest(
             evidence: Err(unready),
         },
     }
+}
+
+// What is judged beside the profile that a bundle means.
+fn judge_beside(alloc: Global, profile: &Profile, filter: &[u8], behind: &Behind<'_>) -> Judged
+    requires { IsBehind filter.now behind.now.rest.now behind.now.answered.items }
+    ensures { (native : TheArch) (bundle : List ℕ) → IsBundle native bundle profile.now
+        → IsJudgedBehind native bundle filter.now behind.now.rest.now behind.now.answered.items result.whole result.evidence }
+{
+    if spares(profile, &behind.answered) {
+        return judge_rest(alloc, profile, filter, behind);
+    }
+    judge_whole(alloc, profile, filter)
 }
 
 /// What is judged of a filter behind a stub, beside a bundle that is read for a native machine. The rest is asked about where the bundle
@@ -133,10 +132,13 @@ pub fn judge_behind(
     requires { IsBehind filter.now behind.now.rest.now behind.now.answered.items }
     ensures { IsJudgedBehind native bundle.now filter.now behind.now.rest.now behind.now.answered.items result.whole result.evidence }
 {
-    if !is_spared(alloc, native, bundle, &behind.answered) {
-        return judge_whole(alloc, native, bundle, filter);
+    match read_bundle(alloc, bundle, native) {
+        Ok(read) => judge_beside(alloc, &read.profile, filter, behind),
+        Err(error) => Judged {
+            whole: true,
+            evidence: Err(Unready::from(error)),
+        },
     }
-    judge_rest(alloc, native, bundle, filter, behind)
 }
 
 /// Writes what is judged of a filter behind a stub.

@@ -2,14 +2,14 @@
 ghost use Rattle.std.specs.Prelude.{◌≡◌, ◌++◌, IfOk, string_bytes};
 ghost use Rattle.std.specs.List.{flat_map};
 ghost use Rattle.call_tables.specs.Arch.{machine_name};
-ghost use Rattle.explain.specs.Phrases.{hexadecimal};
+ghost use Rattle.wording.specs.Phrases.{hexadecimal};
 ghost use Rattle.compare.specs.StubTold as spec;
 
 use crate::behind_runc::stub::Calls;
 use call_tables::{Family, Numbers};
-use explain::machine_with;
 use std::alloc::{AllocError, Global};
 use std::fmt::Write;
+use wording::machine_with;
 
 // Adds the line of numbers of a machine with a name.
 fn put_named(text: &mut String, numbers: Numbers, machine: &str) -> Result<(), AllocError>

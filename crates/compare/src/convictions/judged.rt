@@ -83,8 +83,8 @@ fn add_all(
     add_beside(alloc, native.family(), &read.profile, &program, told, all)
 }
 
-// Puts a record before all others.
-fn put_first(found: &Conviction, all: &mut Vec<Conviction>) -> Result<(), AllocError>
+/// Puts a record before all others.
+pub(crate) fn put_first(found: &Conviction, all: &mut Vec<Conviction>) -> Result<(), AllocError>
     ensures { OnOk result (all.new.items ≡ found.now ∷ all.old.items) }
 {
     all.insert(0, *found)?;

@@ -9,9 +9,9 @@ use crate::filters::outcome::{Outcome, outcome_of};
 use crate::text::lines_of;
 use bpf_insn::ViewError;
 use call_tables::Arch;
-use explain::Told;
 use kernel_check::Refused;
 use std::alloc::{AllocError, Global};
+use wording::Told;
 
 // The lines of calls, and the word that says that the filters differ.
 fn differences_text(alloc: Global, changes: &[Change]) -> Result<String, AllocError>

@@ -1,9 +1,15 @@
 //! Whether `lint` is worth asking about a bundle.
 ghost use Rattle.std.specs.Prelude.{◌≡◌, true, IfOk};
+ghost use Rattle.call_tables.specs.declared.arch.Family.{Family as TheFamily};
+ghost use Rattle.profile.specs.Policy.{Policy};
 ghost use Rattle.compare.specs.Linted as spec;
-ghost use Rattle.explain.specs.Narrow.{IsBundle};
+ghost use Rattle.compare.specs.Past.{IsFinding};
+ghost use Rattle.unread_bits.specs.Past.{GetsPast};
+ghost use Rattle.unread_bits.specs.declared.past.Past.{Past as ThePast};
+ghost use Rattle.widths.specs.Narrow.{IsBundle};
 
-use crate::lint::search::search;
+use crate::lint::decided::finding;
+use crate::lint::past::Finding;
 use call_tables::Arch;
 use profile::Profile;
 use profile_json::read_bundle;
@@ -12,7 +18,18 @@ use std::alloc::{AllocError, Global};
 /// Of a longer text nothing is told, since it would be read twice.
 const MOST_BYTES: usize = 1 << 20;
 
-// Whether a call is found that gets past a profile.
+// Whether some call gets past.
+fn is_some(found: &Finding) -> bool
+    ensures { (family : TheFamily) (p : Policy) → IsFinding family p found.now → result ≡ true → (past : ThePast) × GetsPast p past }
+{
+    match found {
+        Finding::Nothing => false,
+        Finding::GetPast(_) => true,
+        Finding::Undecided(list, _) => !list.is_empty(),
+    }
+}
+
+// Whether some call gets past a profile.
 fn is_passed(
     alloc: Global,
     native: Arch,
@@ -22,14 +39,11 @@ fn is_passed(
     requires { IsBundle native bundle.now profile.now }
     ensures { IfOk result (λ told. told ≡ true → spec.SomeGetPast native bundle.now) }
 {
-    let found = search(alloc, profile)?;
-    if found.as_slice().is_empty() {
-        return Ok(false);
-    }
-    Ok(true)
+    let found = finding(alloc, native.family(), profile)?;
+    Ok(is_some(&found))
 }
 
-/// Whether a call is found that gets past a bundle. It is a quick search: where none is found, `lint` may still report one.
+/// Whether some call gets past a bundle, as far as it is decided.
 pub fn hint(alloc: Global, native: Arch, bundle: &[u8]) -> Result<bool, AllocError>
     ensures { IfOk result (λ told. told ≡ true → spec.SomeGetPast native bundle.now) }
 {

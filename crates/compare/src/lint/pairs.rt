@@ -2,9 +2,9 @@
 use crate::lint::places::entry_at;
 use call_record::lets_through;
 use call_tables::Arch;
-use explain::narrow::Text;
 use profile::Profile;
 use profile_json::EntryRules;
+use widths::Text;
 
 // The second does what the first does, under arguments of its own.
 const PAIRS: [(&str, &str); 4] = [

@@ -1,18 +1,22 @@
 //! What else in a bundle says less than it seems to. None of it changes what is decided.
 use crate::lint::pairs::put_pairs;
 use call_record::lets_through;
-use explain::ConditionText;
-use explain::narrow::{Reading, Text, readings, sees_low};
 use profile::{Cond, Op, Profile, Rule};
 use profile_json::EntryRules;
+use std::alloc::{AllocError, Global};
+use widths::{Reading, Text, readings, sees_low};
+use wording::ConditionText;
 
-// How an argument is read, if that is known.
+// How an argument is read, if that is known. On x86 and ARM it has 32 bits.
 fn reading_of(rule: &Rule, cond: &Cond) -> Option<Reading> {
-    if rule.is_narrow() {
-        return None;
+    let known = match readings(rule.arch.token(), rule.nr) {
+        Some(row) => row.get(cond.index as usize).copied(),
+        None => None,
+    };
+    if rule.is_narrow() && matches!(known, None | Some(Reading::Bits64)) {
+        return Some(Reading::Bits32);
     }
-    let row = readings(rule.arch.token(), rule.nr)?;
-    row.get(cond.index as usize).copied()
+    known
 }
 
 // Whether a condition refuses a call that has a bit set that nobody reads.
@@ -21,7 +25,8 @@ fn asks_unread(rule: &Rule, cond: &Cond) -> bool {
         return false;
     };
     let bits = reading.bits();
-    if bits >= 64 || sees_low(cond, bits) {
+    let compared = if rule.is_narrow() { 32 } else { 64 };
+    if bits >= compared || sees_low(cond, bits) {
         return false;
     }
     matches!(cond.op, Op::Eq | Op::Lt | Op::Le | Op::MaskedEq)
@@ -46,14 +51,9 @@ fn compared_with(cond: &Cond) -> u64 {
     }
 }
 
-// Why a condition says less than it seems to. On x86 and ARM each argument has 32 bits.
+// Why a condition says less than it seems to.
 fn remark_of(rule: &Rule, cond: &Cond) -> Option<&'static str> {
-    let reading = if rule.is_narrow() {
-        Reading::Bits32
-    } else {
-        reading_of(rule, cond)?
-    };
-    match reading {
+    match reading_of(rule, cond)? {
         Reading::NotTaken => Some("the call has no such argument"),
         Reading::Pointer => {
             Some("a pointer: the address is compared, and not what stands there")
@@ -145,8 +145,8 @@ fn put_strict(text: &mut Text, profile: &Profile) {
     }
 }
 
-/// Adds the remarks.
-pub(crate) fn put_remarks(text: &mut Text, profile: &Profile, all: &EntryRules) {
+// Adds the remarks.
+fn put_remarks(text: &mut Text, profile: &Profile, all: &EntryRules) {
     put_strict(text, profile);
     put_pairs(text, profile, all);
     for (at, rule) in all.rules.iter().enumerate() {
@@ -155,4 +155,15 @@ pub(crate) fn put_remarks(text: &mut Text, profile: &Profile, all: &EntryRules) 
             put_rule(text, all, at, rule);
         }
     }
+}
+
+/// The remarks on a bundle.
+pub(crate) fn remarks_of(
+    alloc: Global,
+    profile: &Profile,
+    all: &EntryRules,
+) -> Result<String, AllocError> {
+    let mut text = Text::new(alloc);
+    put_remarks(&mut text, profile, all);
+    text.whole()
 }

@@ -2,16 +2,16 @@
 ghost use Rattle.std.specs.Prelude.{◌≡◌, ℕ, List, IfOk};
 ghost use Rattle.compare.specs.Linted as spec;
 ghost use Rattle.compare.specs.Past.{IsFinding};
-ghost use Rattle.explain.specs.Narrow.{IsBundle};
+ghost use Rattle.widths.specs.Narrow.{IsBundle};
 
 use crate::lint::decided::finding;
 use crate::lint::past::Finding;
 use crate::lint::text::text_of;
 use call_tables::Arch;
-use explain::{Told, refused_profile};
 use profile::Profile;
 use profile_json::read_bundle;
 use std::alloc::{AllocError, Global};
+use wording::{Told, refused_profile};
 
 fn is_nothing(found: &Finding) -> bool
     ensures { result ≡ spec.is_nothing found.now }
@@ -19,7 +19,7 @@ fn is_nothing(found: &Finding) -> bool
     match found {
         Finding::Nothing => true,
         Finding::GetPast(_) => false,
-        Finding::Undecided(_) => false,
+        Finding::Undecided(_, _) => false,
     }
 }
 
@@ -28,7 +28,7 @@ fn judged(alloc: Global, native: Arch, bundle: &[u8], profile: &Profile) -> Resu
     requires { IsBundle native bundle.now profile.now }
     ensures { IfOk result (spec.IsJudged native bundle.now) }
 {
-    let found = finding(alloc, profile)?;
+    let found = finding(alloc, native.family(), profile)?;
     let done = is_nothing(&found);
     let text = text_of(alloc, native, bundle, profile, &found)?;
     Ok(Told {

@@ -2,7 +2,7 @@
 use Rattle.std.specs.Prelude.{ℕ, ◌≡◌, Option, None, Some, IsSomeAnd}
 use Rattle.call_tables.specs.declared.arch.Arch.{Arch}
 use Rattle.call_record.specs.declared.layout.Record.{Record}
-use Rattle.explain.specs.script.Commands.{Command, Create, Start, Delete, State, Kill, Call}
+use Rattle.script.specs.Commands.{Command, Create, Start, Delete, State, Kill, Call}
 use Rattle.explain.specs.Asked.{IsRecordOf}
 
 -- a call without a program has a record, and nothing else has one

@@ -2,17 +2,17 @@
 ghost use Rattle.std.specs.Prelude.{◌≡◌, IfErr, IfOk, IfSome, codes, string_bytes};
 ghost use Rattle.call_tables.specs.Arch.{family_of};
 ghost use Rattle.explain.specs.Any as spec;
-ghost use Rattle.explain.specs.Told.{TellsLine};
+ghost use Rattle.wording.specs.Told.{TellsLine};
 ghost use Rattle.profile_json.specs.Breaks.{Breaks};
 ghost use Rattle.profile_json.specs.Fault.{fault_of};
 
 use crate::audited::lines::{put_number, put_said};
 use crate::audited::what::what_call;
-use crate::told::{Told, refused_profile};
 use call_tables::{Arch, Family};
 use profile::Profile;
 use profile_json::{EntryRules, ProfileError, read_bundle, rules_by_entry};
 use std::alloc::{AllocError, Global};
+use wording::{Told, refused_profile};
 
 // The text of what a profile says of a call.
 fn told(

@@ -1,184 +1,210 @@
 //! What a bundle says of the lines of a kernel's audit.
-ghost use Rattle.std.specs.Prelude.{◌≡◌};
-ghost use Rattle.explain.specs.Answers as spec;
+ghost use Rattle.std.specs.Prelude.{◌≡◌, ◌++◌, ◌∷◌, [], IfErr, IfOk, IfSome, codes, string_bytes};
+ghost use Rattle.std.specs.Fmt.{decimal};
+ghost use Rattle.texts.specs.Lines.{line_feed};
+ghost use Rattle.wording.specs.Phrases.{action_text, hexadecimal};
+ghost use Rattle.explain.specs.Audit as spec;
+ghost use Rattle.explain.specs.inner.Times.{counted_line};
+ghost use Rattle.profile_json.specs.Breaks.{Breaks};
+ghost use Rattle.profile_json.specs.Fault.{fault_of};
+ghost use Rattle.wording.specs.Told.{TellsLine};
 
-use crate::audited::answers::may_answer;
-use crate::audited::fields::{Event, event_on};
+use crate::audited::events::{
+    all_may_be, count_of, count_others, events_in, has_call, listed, may_be,
+};
+use crate::audited::fields::Event;
 use crate::audited::lines::{put_number, put_said};
-use crate::learn::split_line;
-use crate::phrases::ActionText;
-use crate::told::{Told, refused_profile};
 use call_record::Word;
-use call_tables::Arch;
+use call_tables::{Arch, Family};
 use profile::Profile;
-use profile_json::{EntryRules, read_bundle, rules_by_entry};
+use profile_json::{EntryRules, ProfileError, read_bundle, rules_by_entry};
 use std::alloc::{AllocError, Global};
 use std::fmt::Write;
+use wording::{ActionText, Told, refused_profile};
 
-// How many different events are listed. A system has fewer calls.
-const MOST_EVENTS: usize = 1024;
-
-// An event, and how many lines tell it.
-#[derive(Clone, Copy, PartialEq, Eq)]
-struct Counted {
-    event: Event,
-    count: u64,
-}
-
-// The first different events of lines, how many lines tell others, and whether a bundle may answer so in each.
-#[derive(Drop)]
-struct Events {
-    list: Vec<Counted>,
-    others: u64,
-    may_be: bool,
-}
-
-// Counts an event.
-fn count(events: &mut Events, event: Event) -> Result<(), AllocError> {
-    let found = events
-        .list
-        .iter()
-        .position(|counted| counted.event == event);
-    if let Some(place) = found {
-        if let Some(counted) = events.list.get_mut(place) {
-            counted.count = counted.count.saturating_add(1);
-        }
-        return Ok(());
-    }
-    if events.list.len() >= MOST_EVENTS {
-        events.others = events.others.saturating_add(1);
-        return Ok(());
-    }
-    events.list.push(Counted { event, count: 1 })?;
-    Ok(())
-}
-
-// Whether a bundle may answer as an event tells.
-fn may_be(profile: &Profile, event: Event) -> bool
-    ensures { result ≡ spec.may_answer profile.now event.token event.nr event.code }
+// Adds how many lines tell an event.
+fn put_count(text: &mut String, count: usize) -> Result<(), AllocError>
+    ensures { IfOk result (λ _. string_bytes text.new ≡ string_bytes text.old ++ (codes "told " ++ decimal count ++ codes " times, code ")) }
 {
-    may_answer(profile, event.token, event.nr, Word(event.code))
+    write!(text, "told {count} times, code ")
 }
 
-// Adds the event that a line tells, if it is text and tells one.
-fn put_line(profile: &Profile, line: &[u8], events: &mut Events) -> Result<(), AllocError> {
-    let Ok(text) = str::from_utf8(line) else {
-        return Ok(());
-    };
-    if let Some(event) = event_on(text) {
-        if !may_be(profile, event) {
-            events.may_be = false;
-        }
-        count(events, event)?;
-    }
-    Ok(())
+// Adds the number of an answer.
+fn put_code(text: &mut String, code: u32) -> Result<(), AllocError>
+    ensures { IfOk result (λ _. string_bytes text.new ≡ string_bytes text.old ++ (hexadecimal code ++ codes " ")) }
+{
+    write!(text, "0x{code:x} ")
 }
 
-// The events that lines tell, each once.
-fn events_in(alloc: Global, profile: &Profile, lines: &[u8]) -> Result<Events, AllocError> {
-    let mut events = Events {
-        list: Vec::new(alloc),
-        others: 0,
-        may_be: true,
-    };
-    let mut rest = lines;
-    'line: while let Some((line, more)) = split_line(rest) {
-        put_line(profile, line, &mut events)?;
-        rest = more;
-    }
-    put_line(profile, rest, &mut events)?;
-    Ok(events)
+// Adds its action.
+fn put_action(text: &mut String, code: u32) -> Result<(), AllocError>
+    ensures { IfOk result (λ _. string_bytes text.new ≡ string_bytes text.old ++ (action_text code ++ line_feed ∷ [])) }
+{
+    let action = ActionText(Word(code));
+    writeln!(text, "{action}")
 }
 
-// Whether an event is of this call.
-fn is_of_call(counted: &Counted, token: u32, nr: u32) -> bool {
-    counted.event.token == token && counted.event.nr == nr
+// Adds that so many lines tell an answer.
+fn put_counted(text: &mut String, count: usize, code: u32) -> Result<(), AllocError>
+    ensures { IfOk result (λ _. string_bytes text.new ≡ string_bytes text.old ++ counted_line count code) }
+{
+    put_count(text, count)?;
+    put_code(text, code)?;
+    put_action(text, code)
 }
 
-// Adds how often an event is told, the action, and whether it is one that the bundle may give.
-fn put_event(text: &mut String, profile: &Profile, counted: &Counted) -> Result<(), AllocError> {
-    let Event { token, nr, code } = counted.event;
-    let count = counted.count;
-    let action = Word(code);
-    let name = ActionText(action);
-    writeln!(text, "told {count} times, code 0x{code:x} {name}")?;
-    if may_be(profile, counted.event) {
+// Adds how many lines tell an event, and the answer.
+fn put_times(text: &mut String, all: &[Event], event: &Event) -> Result<(), AllocError>
+    ensures { IfOk result (λ _. string_bytes text.new ≡ string_bytes text.old ++ spec.times_line all.now event.now) }
+{
+    put_counted(text, count_of(event, all), event.code)
+}
+
+// Adds whether the bundle may answer so.
+fn put_may(text: &mut String, may: bool) -> Result<(), AllocError>
+    ensures { IfOk result (λ _. string_bytes text.new ≡ string_bytes text.old ++ spec.may_line may) }
+{
+    if may {
         text.push_str("the bundle may answer so\n")
     } else {
         text.push_str("the bundle never answers so: another filter did\n")
     }
 }
 
-// Adds what a bundle says of events; of a call that an earlier one was of, the entries stand there.
-fn put_events(
+// Adds what the bundle says of the call of an event, unless one of those before is of the same call.
+fn put_entries(
     text: &mut String,
-    native: Arch,
     profile: &Profile,
     all: &EntryRules,
-    events: &[Counted],
-) -> Result<(), AllocError> {
-    for (place, counted) in events.iter().enumerate() {
-        let Event { token, nr, .. } = counted.event;
-        put_number(text, native.family(), token, nr)?;
-        put_event(text, profile, counted)?;
-        let mut before = events.iter().take(place);
-        if before.any(|earlier| is_of_call(earlier, token, nr)) {
-            text.push_str("entries as above\n")?;
-        } else {
-            put_said(text, profile, all, token, nr)?;
-        }
+    before: &[Event],
+    event: &Event,
+) -> Result<(), AllocError>
+    ensures { IfOk result (λ _. string_bytes text.new ≡ string_bytes text.old
+        ++ spec.entries_lines profile.now all.now.rules.items all.now.ends.items before.now event.now) }
+{
+    if has_call(before, event) {
+        return text.push_str("entries as above\n");
+    }
+    put_said(text, profile, all, event.token, event.nr)
+}
+
+// Adds an event of all, behind those before it.
+fn put_event(
+    text: &mut String,
+    family: Family,
+    profile: &Profile,
+    all: &EntryRules,
+    events: &[Event],
+    before: &[Event],
+    event: &Event,
+) -> Result<(), AllocError>
+    ensures { IfOk result (λ _. string_bytes text.new ≡ string_bytes text.old
+        ++ spec.event_lines family profile.now all.now.rules.items all.now.ends.items events.now before.now event.now) }
+{
+    put_number(text, family, event.token, event.nr)?;
+    put_times(text, events, event)?;
+    put_may(text, may_be(profile, *event))?;
+    put_entries(text, profile, all, before, event)
+}
+
+// Adds these events of all.
+fn put_events(
+    text: &mut String,
+    family: Family,
+    profile: &Profile,
+    all: &EntryRules,
+    events: &[Event],
+    firsts: &[Event],
+) -> Result<(), AllocError>
+    ensures { IfOk result (λ _. string_bytes text.new ≡ string_bytes text.old
+        ++ spec.lines_behind family profile.now all.now.rules.items all.now.ends.items events.now [] firsts.now) }
+{
+    for (place, event) in firsts.iter().enumerate() {
+        let before = &firsts[..place];
+        put_event(text, family, profile, all, events, before, event)?;
     }
     Ok(())
 }
 
 // Adds how many lines tell events that are not listed, if there are some.
-fn put_others(text: &mut String, others: u64) -> Result<(), AllocError> {
+fn put_others(text: &mut String, others: usize) -> Result<(), AllocError>
+    ensures { IfOk result (λ _. string_bytes text.new ≡ string_bytes text.old ++ spec.others_line others) }
+{
     if others == 0 {
         return Ok(());
     }
     writeln!(text, "more lines that tell others: {others}")
 }
 
+// The text that a profile tells of events.
+fn text_of(
+    alloc: Global,
+    family: Family,
+    profile: &Profile,
+    all: &EntryRules,
+    events: &[Event],
+) -> Result<String, AllocError>
+    ensures { IfOk result (λ text. string_bytes text
+        ≡ spec.audit_text family profile.now all.now.rules.items all.now.ends.items events.now) }
+{
+    let firsts = listed(alloc, events)?;
+    let mut text = String::new(alloc);
+    put_events(&mut text, family, profile, all, events, &firsts)?;
+    put_others(&mut text, count_others(&firsts, events))?;
+    Ok(text)
+}
+
 // The line that tells that no line is of a filter's answer.
-fn no_event(alloc: Global) -> Result<Told, AllocError> {
+fn no_event(alloc: Global) -> Result<Told, AllocError>
+    ensures { IfOk result (TellsLine (codes "refused lines: none has arch, syscall and code")) }
+{
     Ok(Told {
         bytes: Vec::from_slice(alloc, b"refused lines: none has arch, syscall and code\n")?,
         done: false,
     })
 }
 
-// What a profile says of the events of lines.
-fn audited(
+// What a profile says of events.
+fn told_of(
     alloc: Global,
-    native: Arch,
+    family: Family,
     profile: &Profile,
     all: &EntryRules,
-    lines: &[u8],
-) -> Result<Told, AllocError> {
-    let events = events_in(alloc, profile, lines)?;
-    if events.list.is_empty() {
+    events: &[Event],
+) -> Result<Told, AllocError>
+    ensures { IfOk result (spec.AnswersEvents family profile.now all.now.rules.items all.now.ends.items events.now) }
+{
+    if events.is_empty() {
         return no_event(alloc);
     }
-    let mut told = String::new(alloc);
-    put_events(&mut told, native, profile, all, &events.list)?;
-    put_others(&mut told, events.others)?;
+    let text = text_of(alloc, family, profile, all, events)?;
     Ok(Told {
-        bytes: told.into_bytes(),
-        done: events.may_be,
+        bytes: text.into_bytes(),
+        done: all_may_be(profile, events),
     })
+}
+
+// What a bundle says of the events of lines.
+fn audited(alloc: Global, native: Arch, bundle: &[u8], lines: &[u8]) -> Result<Told, ProfileError>
+    ensures asks { IfOk result (spec.AsksBundle native bundle.now lines.now) }
+    // Unless memory ran out, the fault stands in the bundle.
+    ensures fault { IfErr result (λ e. IfSome (fault_of e) (Breaks bundle.now native)) }
+{
+    let read = read_bundle(alloc, bundle, native)?;
+    let all = rules_by_entry(alloc, bundle, native)?;
+    let events = events_in(alloc, lines)?;
+    let told = told_of(alloc, native.family(), &read.profile, &all, &events)?;
+    Ok(told)
 }
 
 /// Tells of each call that lines of a kernel's audit show, as dmesg, journald and auditd write them, what it was, whether a
 /// bundle, which is read for a native machine, may answer so, and what the bundle says of it. It is done where the bundle may answer
 /// so in each line.
-pub fn audit(alloc: Global, native: Arch, bundle: &[u8], lines: &[u8]) -> Result<Told, AllocError> {
-    let read = match read_bundle(alloc, bundle, native) {
-        Ok(read) => read,
-        Err(error) => return refused_profile(alloc, error),
-    };
-    let all = match rules_by_entry(alloc, bundle, native) {
-        Ok(all) => all,
-        Err(error) => return refused_profile(alloc, error),
-    };
-    audited(alloc, native, &read.profile, &all, lines)
+pub fn audit(alloc: Global, native: Arch, bundle: &[u8], lines: &[u8]) -> Result<Told, AllocError>
+    ensures { IfOk result (spec.IsAudited native bundle.now lines.now) }
+{
+    match audited(alloc, native, bundle, lines) {
+        Ok(told) => Ok(told),
+        Err(error) => refused_profile(alloc, error),
+    }
 }

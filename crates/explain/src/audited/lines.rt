@@ -2,18 +2,16 @@
 ghost use Rattle.std.specs.Prelude.{◌≡◌, ◌+◌, ◌++◌, ◌∷◌, List, codes, IfOk, Some, None, string_bytes};
 ghost use Rattle.std.specs.List.{list_any};
 ghost use Rattle.call_tables.specs.Numbers.{has_call};
-ghost use Rattle.explain.specs.Phrases as phrases;
+ghost use Rattle.wording.specs.Phrases as phrases;
 ghost use Rattle.profile.specs.declared.rules.Rule.{Rule as TheRule};
 ghost use Rattle.explain.specs.Any as spec;
 
-use crate::calls::machine_with;
-use crate::phrases::{ActionText, ConditionText};
-use crate::reason::entry_at;
 use call_tables::{Arch, Family};
 use profile::{Cond, Profile, Rule, are_for};
 use profile_json::EntryRules;
 use std::alloc::AllocError;
 use std::fmt::Write;
+use wording::{ActionText, ConditionText, entry_at, machine_with};
 
 // Adds the line of a machine's call that has a name.
 fn put_named(text: &mut String, name: &str, arch: Arch, nr: u32) -> Result<(), AllocError>

@@ -2,11 +2,11 @@
 ghost use Rattle.std.specs.Prelude.{◌≡◌, ◌++◌, ℕ, List, None, codes, IfOk, IfSome, string_bytes};
 ghost use Rattle.call_tables.specs.declared.arch.Arch.{Arch as TheArch};
 ghost use Rattle.explain.specs.inner.Found as spec;
-ghost use Rattle.explain.specs.script.Requests.{command_of};
+ghost use Rattle.script.specs.Requests.{command_of};
 ghost use Rattle.explain.specs.Any.{IsWhat};
 
-use crate::script::{Request, one_command, read_line};
 use call_tables::Arch;
+use script::{Request, one_command, read_line};
 use std::alloc::{AllocError, Global};
 
 // The line of a script with this word.

@@ -55,6 +55,6 @@ ShapeLacksMemory policy p result = IsPlain policy → IsCallFilter policy p → 
 abbrev pub FindsConviction : Policy → List Insn → Result (Option Conviction) CertifyError → Type 0
 FindsConviction policy p result = IfOk result (λ answer. IfSome answer (IsConviction policy p))
 
--- where nothing is found, and the filter compares steadily, it is right
-abbrev pub NoneIsRight : Policy → List Insn → Result (Option Conviction) CertifyError → Type 0
-NoneIsRight policy p result = IsSteady p 0 Nothing → IfOk result (λ answer. answer ≡ None → IsRight policy p)
+-- a filter with a certificate is right
+abbrev pub ShowsRight : Policy → List Insn → Result Evidence CertifyError → Type 0
+ShowsRight policy p result = IfOk result (λ e. IsCertificate e → IsRight policy p)

@@ -1,6 +1,6 @@
 //! What the maker by outlines is told of the compiler's outline.
 
-use crate::outline::{AskedCall, are_too_many};
+use outline::{AskedCall, are_too_many};
 use rule_compile::{Asked, Call, Open, Outline, Part};
 use std::alloc::{AllocError, Global};
 

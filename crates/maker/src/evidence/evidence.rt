@@ -1,27 +1,26 @@
-//! The evidence on a filter: a certificate, or a record that convicts it.
-ghost use Rattle.std.specs.Prelude.{◌≡◌, ◌≢◌, IfErr, IfOk, IfSome, None, Ok};
+//! The one judgement: a filter's certificate, or a record on which it is wrong.
+ghost use Rattle.std.specs.Prelude.{◌≡◌, ℕ, List, Err, IfErr, IfOk, IfSome, None};
 ghost use Rattle.call_record.specs.Record.{words};
 ghost use Rattle.kernel_check.specs.Lent.{accepted_insns};
-ghost use Rattle.profile.specs.Policy.{IsClear};
-ghost use Rattle.cert_check.specs.Right.{ValidIsRight};
+ghost use Rattle.cert_check.specs.Right.{IsRight};
 ghost use Rattle.cert_check.specs.Valid.{IsValidCertificate};
-ghost use Rattle.certify.specs.Fault.{IsWrongOn, TellsWrong};
-ghost use Rattle.maker.specs.evidence.AtHand.{IsValidOne};
-ghost use Rattle.maker.specs.evidence.Conviction.{CertifiesShape, FindsConviction, IsCertificate, IsConviction, IsEvidence, JudgesSteady};
-ghost use Rattle.maker.specs.evidence.Conviction.{JudgesTelling, NoneIsRight, ShapeLacksMemory};
 ghost use Rattle.certify.specs.Error.{IsOfSize};
+ghost use Rattle.certify.specs.Fault.{IsWrongOn, TellsWrong};
+ghost use Rattle.maker.specs.evidence.Conviction.{CertifiesShape, FindsConviction, IsConviction, IsEvidence, JudgesSteady};
+ghost use Rattle.maker.specs.evidence.Conviction.{JudgesTelling, ShapeLacksMemory, ShowsRight};
 
 use crate::evidence::hand::Hand;
-use crate::evidence::maker::{at_hand, broken};
-use crate::evidence::own::by_compilers_outline;
-use crate::search::{find_beside_rules, find_record};
+use crate::evidence::maker::are_plain;
+use crate::evidence::own::{by_compilers_outline, by_same_outline};
 use bpf_interp::verdict;
 use call_record::{Record, Word};
-use cert_check::{CheckError, valid_is_right};
+use cert_check::{CheckError, check_accepted, valid_is_right};
 use certify::{CertifyError, PathsError, by_paths};
 use kernel_check::Accepted;
 use profile::Profile;
-use std::alloc::Global;
+use record_search::{find_beside_rules, find_record};
+use rule_compile::{Planned, plan};
+use std::alloc::{AllocError, Global};
 
 /// A record, with the verdict that a filter gives it and the one that a profile says of it.
 #[derive(Clone, Copy, Debug)]
@@ -53,32 +52,16 @@ fn unlike(profile: &Profile, program: &Accepted<'_>, call: Record) -> Option<Con
     Some(Conviction { call, given, said })
 }
 
-// A record of the search on which the two differ, if it finds one.
+// The verdicts on a record of a search, if it found one and they are unlike.
 fn on_a_search(
-    alloc: Global,
     profile: &Profile,
     program: &Accepted<'_>,
+    found: Result<Option<Record>, AllocError>,
 ) -> Result<Option<Conviction>, CertifyError>
     ensures found { FindsConviction profile.now (accepted_insns program.now) result }
     ensures memory { IfErr result (λ e. e ≡ CertifyError.OutOfMemory) }
 {
-    match find_record(alloc, profile, *program) {
-        Ok(Some(call)) => Ok(unlike(profile, program, call)),
-        Ok(None) => Ok(None),
-        Err(_) => Err(CertifyError::OutOfMemory),
-    }
-}
-
-// A record beside the rules on which the two differ, if there is one: calls of the tables come before all others.
-fn beside_rules(
-    alloc: Global,
-    profile: &Profile,
-    program: &Accepted<'_>,
-) -> Result<Option<Conviction>, CertifyError>
-    ensures found { FindsConviction profile.now (accepted_insns program.now) result }
-    ensures memory { IfErr result (λ e. e ≡ CertifyError.OutOfMemory) }
-{
-    match find_beside_rules(alloc, profile, *program) {
+    match found {
         Ok(Some(call)) => Ok(unlike(profile, program, call)),
         Ok(None) => Ok(None),
         Err(_) => Err(CertifyError::OutOfMemory),
@@ -93,14 +76,15 @@ fn on_record(
     program: &Accepted<'_>,
     pc: u32,
     call: Record,
-) -> Result<Conviction, CertifyError>
-    ensures found { IfOk result (IsConviction profile.now (accepted_insns program.now)) }
+) -> Result<Evidence, CertifyError>
+    ensures evidence { IfOk result (IsEvidence profile.now (accepted_insns program.now)) }
     ensures sure { IsWrongOn profile.now (accepted_insns program.now) (words call) → IfErr result IsOfSize }
 {
-    match beside_rules(alloc, profile, program) {
-        Ok(Some(found)) => Ok(found),
+    let beside = find_beside_rules(alloc, profile, *program);
+    match on_a_search(profile, program, beside) {
+        Ok(Some(found)) => Ok(Evidence::Convicting(found)),
         Ok(None) => match unlike(profile, program, call) {
-            Some(found) => Ok(found),
+            Some(found) => Ok(Evidence::Convicting(found)),
             None => Err(CertifyError::Undecided(pc)),
         },
         Err(error) => Err(error),
@@ -113,69 +97,36 @@ fn searched(
     profile: &Profile,
     program: &Accepted<'_>,
     reason: CertifyError,
-) -> Result<Conviction, CertifyError>
-    ensures found { IfOk result (IsConviction profile.now (accepted_insns program.now)) }
+) -> Result<Evidence, CertifyError>
+    ensures evidence { IfOk result (IsEvidence profile.now (accepted_insns program.now)) }
     ensures sure { IsOfSize reason → IfErr result IsOfSize }
 {
-    match on_a_search(alloc, profile, program) {
-        Ok(Some(found)) => Ok(found),
+    let record = find_record(alloc, profile, *program);
+    match on_a_search(profile, program, record) {
+        Ok(Some(found)) => Ok(Evidence::Convicting(found)),
         Ok(None) => Err(reason),
         Err(error) => Err(error),
     }
 }
 
-// The record that convicts a filter of which the paths told why none follows each of them, or why there is none.
-fn convicted(
+// The certificate that is at hand, if the checker says yes to it.
+fn checked(
     alloc: Global,
     profile: &Profile,
     program: &Accepted<'_>,
-    error: PathsError,
-) -> Result<Conviction, CertifyError>
-    ensures found { IfOk result (IsConviction profile.now (accepted_insns program.now)) }
-    ensures sure { TellsWrong profile.now (accepted_insns program.now) error → IfErr result IsOfSize }
-{
-    match error {
-        PathsError::Unlike(pc, call) => on_record(alloc, profile, program, pc, call),
-        PathsError::Unsettled(pc) => {
-            searched(alloc, profile, program, CertifyError::Undecided(pc))
-        }
-        PathsError::TooLarge => searched(alloc, profile, program, CertifyError::TooLarge),
-        PathsError::OutOfMemory => Err(CertifyError::OutOfMemory),
-    }
-}
-
-// The evidence where the paths told why no certificate follows each of them.
-fn without(
-    alloc: Global,
-    profile: &Profile,
-    program: &Accepted<'_>,
-    error: PathsError,
-) -> Result<Evidence, CertifyError>
-    ensures evidence { IfOk result (IsEvidence profile.now (accepted_insns program.now)) }
-    ensures sure { TellsWrong profile.now (accepted_insns program.now) error → IfErr result IsOfSize }
-{
-    match convicted(alloc, profile, program, error) {
-        Ok(found) => Ok(Evidence::Convicting(found)),
-        Err(reason) => Err(reason),
-    }
-}
-
-// The certificate that is written from the outline of the compiler's filter, if the checker says yes to it.
-fn by_checked_outline(
-    alloc: Global,
-    profile: &Profile,
-    program: &Accepted<'_>,
+    hand: Result<Hand, CertifyError>,
 ) -> Result<Option<Vec<u8>>, CertifyError>
+    requires { IfErr hand (λ e. e ≡ CertifyError.OutOfMemory) }
     ensures valid { IfOk result (λ found. IfSome found (λ bytes. IsValidCertificate profile.now (accepted_insns program.now) bytes.items)) }
     ensures memory { IfErr result (λ e. e ≡ CertifyError.OutOfMemory) }
 {
-    let Hand::Certificate(bytes) = by_compilers_outline(alloc, profile, *program)? else {
+    let Hand::Certificate(bytes) = hand? else {
         return Ok(None);
     };
-    match broken(alloc, profile, program, &bytes) {
-        None => Ok(Some(bytes)),
-        Some(CheckError::OutOfMemory) => Err(CertifyError::OutOfMemory),
-        Some(_) => Ok(None),
+    match check_accepted(alloc, profile, program, &bytes) {
+        Ok(()) => Ok(Some(bytes)),
+        Err(CheckError::OutOfMemory) => Err(CertifyError::OutOfMemory),
+        Err(_) => Ok(None),
     }
 }
 
@@ -185,14 +136,38 @@ fn of_many_paths(
     alloc: Global,
     profile: &Profile,
     program: &Accepted<'_>,
+    own: Option<&Planned>,
 ) -> Result<Evidence, CertifyError>
     ensures evidence { IfOk result (IsEvidence profile.now (accepted_insns program.now)) }
     ensures size { IfErr result IsOfSize }
 {
-    match by_checked_outline(alloc, profile, program) {
+    let hand = by_compilers_outline(alloc, profile, *program, own);
+    match checked(alloc, profile, program, hand) {
         Ok(Some(bytes)) => Ok(Evidence::Certificate(bytes)),
-        Ok(None) => without(alloc, profile, program, PathsError::TooLarge),
+        Ok(None) => searched(alloc, profile, program, CertifyError::TooLarge),
         Err(error) => Err(error),
+    }
+}
+
+// The evidence where the paths told why no certificate follows each of them.
+fn beside_paths(
+    alloc: Global,
+    profile: &Profile,
+    program: &Accepted<'_>,
+    own: Option<&Planned>,
+    error: PathsError,
+) -> Result<Evidence, CertifyError>
+    ensures evidence { IfOk result (IsEvidence profile.now (accepted_insns program.now)) }
+    ensures sure { TellsWrong profile.now (accepted_insns program.now) error → IfErr result IsOfSize }
+    ensures memory { error ≡ PathsError.OutOfMemory → result ≡ Err CertifyError.OutOfMemory }
+{
+    match error {
+        PathsError::Unlike(pc, call) => on_record(alloc, profile, program, pc, call),
+        PathsError::Unsettled(pc) => {
+            searched(alloc, profile, program, CertifyError::Undecided(pc))
+        }
+        PathsError::TooLarge => of_many_paths(alloc, profile, program, own),
+        PathsError::OutOfMemory => Err(CertifyError::OutOfMemory),
     }
 }
 
@@ -201,72 +176,66 @@ fn on_its_paths(
     alloc: Global,
     profile: &Profile,
     program: &Accepted<'_>,
+    own: Option<&Planned>,
 ) -> Result<Evidence, CertifyError>
     ensures evidence { IfOk result (IsEvidence profile.now (accepted_insns program.now)) }
     ensures telling { JudgesTelling (accepted_insns program.now) result }
+    ensures own { CertifiesShape profile.now (accepted_insns program.now) result }
+    ensures never { ShapeLacksMemory profile.now (accepted_insns program.now) result }
 {
     match by_paths(alloc, profile, program) {
         Ok(bytes) => Ok(Evidence::Certificate(bytes)),
-        Err(PathsError::TooLarge) => of_many_paths(alloc, profile, program),
-        Err(error) => without(alloc, profile, program, error),
+        Err(error) => beside_paths(alloc, profile, program, own, error),
     }
 }
 
-// The certificate, where the checker says yes to it, and else what is met on the paths.
-fn once_checked(
+// The evidence on a filter of a profile with conditions. The compiler's own outline is tried before its paths, where it is that filter's.
+fn by_outline(
     alloc: Global,
     profile: &Profile,
     program: &Accepted<'_>,
-    bytes: Vec<u8>,
 ) -> Result<Evidence, CertifyError>
     ensures evidence { IfOk result (IsEvidence profile.now (accepted_insns program.now)) }
     ensures telling { JudgesTelling (accepted_insns program.now) result }
-    ensures own { IsValidCertificate profile.now (accepted_insns program.now) bytes.items → IfOk result IsCertificate }
-    ensures memory { IsValidCertificate profile.now (accepted_insns program.now) bytes.items
-        → IfErr result (λ e. e ≡ CertifyError.OutOfMemory) }
 {
-    match broken(alloc, profile, program, &bytes) {
-        None => Ok(Evidence::Certificate(bytes)),
-        Some(CheckError::OutOfMemory) => Err(CertifyError::OutOfMemory),
-        Some(_) => on_its_paths(alloc, profile, program),
+    let Ok(own) = plan(alloc, profile) else {
+        return Err(CertifyError::OutOfMemory);
+    };
+    let hand = by_same_outline(alloc, profile, *program, &own);
+    match checked(alloc, profile, program, hand) {
+        Ok(Some(bytes)) => Ok(Evidence::Certificate(bytes)),
+        Ok(None) => on_its_paths(alloc, profile, program, Some(&own)),
+        Err(error) => Err(error),
     }
 }
 
-// The evidence, where a certificate may be at hand.
-fn from_hand(
-    alloc: Global,
-    profile: &Profile,
-    program: &Accepted<'_>,
-    hand: Hand,
-) -> Result<Evidence, CertifyError>
-    ensures evidence { IfOk result (IsEvidence profile.now (accepted_insns program.now)) }
-    ensures telling { JudgesTelling (accepted_insns program.now) result }
-    ensures own { IsValidOne profile.now (accepted_insns program.now) hand → IfOk result IsCertificate }
-    ensures memory { IsValidOne profile.now (accepted_insns program.now) hand → IfErr result (λ e. e ≡ CertifyError.OutOfMemory) }
+// A filter with a valid certificate is right.
+fn valid_shows(profile: &Profile, program: &Accepted<'_>)
+    ensures { (cert : List ℕ) → IsValidCertificate profile.now (accepted_insns program.now) cert
+        → IsRight profile.now (accepted_insns program.now) }
 {
-    match hand {
-        Hand::Certificate(bytes) => once_checked(alloc, profile, program, bytes),
-        Hand::TooLarge => on_its_paths(alloc, profile, program),
-        Hand::Nothing => on_its_paths(alloc, profile, program),
-    }
+    valid_is_right();
+    profile.rules();
+    program.program();
 }
 
 /// The evidence on a filter: a certificate that it gives each call record the verdict that the profile says, to which the checker
 /// says yes, or a record on which the two differ.
 ///
-/// A certificate that is at hand is taken first: of a profile without conditions, or by the compiler's outline where the compiler
-/// makes the same filter. Of any other filter each path is followed, until it is certified, or a record is met on which it is wrong.
-/// Then a record beside the rules is told in the place of that one, if there is one, and a call of the tables before all others.
-/// Where the paths are too many, the certificate by the outline of the compiler's own filter is tried. Then, or where some comparison does
-/// not tell all that it asks, a search may still find a record.
-#[tactic(auto, using(crate::proofs::RightLaws::judged_of_telling))]
-pub(crate) fn judge(
+/// A filter that the compiler makes of a profile with conditions is certified by the compiler's outline. Of any other filter each path is
+/// followed once, until it is certified, or a record is met on which it is wrong. Then a record beside the rules is told in the place of
+/// that one, if there is one, and a call of the tables before all others. Where the paths are too many, the certificate by the outline of
+/// the compiler's own filter is tried. Then, or where some comparison does not tell all that it asks, a search may still find a record.
+#[tactic(auto, using(crate::proofs::RightLaws::judged_of_telling, crate::proofs::RightLaws::shows_right))]
+pub fn judge(
     alloc: Global,
     profile: &Profile,
     program: &Accepted<'_>,
 ) -> Result<Evidence, CertifyError>
     // What is found is so.
     ensures evidence { IfOk result (IsEvidence profile.now (accepted_insns program.now)) }
+    // A filter with a certificate gives each record the profile's verdict, and no other.
+    ensures right { ShowsRight profile.now (accepted_insns program.now) result }
     // A filter of which each comparison tells all that it asks is judged, unless the format or memory has no room. Each filter that
     // compares steadily is one.
     ensures telling { JudgesTelling (accepted_insns program.now) result }
@@ -275,65 +244,9 @@ pub(crate) fn judge(
     ensures own { CertifiesShape profile.now (accepted_insns program.now) result }
     ensures never { ShapeLacksMemory profile.now (accepted_insns program.now) result }
 {
-    match at_hand(alloc, profile, program, None) {
-        Ok(hand) => from_hand(alloc, profile, program, hand),
-        Err(error) => Err(error),
+    valid_shows(profile, program);
+    if are_plain(profile.rules()) {
+        return on_its_paths(alloc, profile, program, None);
     }
-}
-
-// A filter with a valid certificate is right.
-fn is_right(profile: &Profile)
-    ensures law { ValidIsRight }
-    ensures clear { IsClear profile.now.rules }
-{
-    valid_is_right();
-    profile.rules();
-}
-
-// The record that convicts a filter, if one is found where the paths told why none follows each of them.
-fn found_by(
-    alloc: Global,
-    profile: &Profile,
-    program: &Accepted<'_>,
-    error: PathsError,
-) -> Result<Option<Conviction>, CertifyError>
-    ensures found { FindsConviction profile.now (accepted_insns program.now) result }
-    ensures sure { TellsWrong profile.now (accepted_insns program.now) error → IfOk result (λ answer. answer ≢ None) }
-    ensures size { IfErr result IsOfSize }
-{
-    match convicted(alloc, profile, program, error) {
-        Ok(found) => Ok(Some(found)),
-        Err(CertifyError::Undecided(_)) => Ok(None),
-        Err(CertifyError::TooLarge) => Err(CertifyError::TooLarge),
-        Err(CertifyError::OutOfMemory) => Err(CertifyError::OutOfMemory),
-    }
-}
-
-// Beside a certificate, which is not kept, there is no record.
-fn none_beside(_certificate: Vec<u8>) -> Result<Option<Conviction>, CertifyError>
-    ensures { result ≡ Ok None }
-{
-    Ok(None)
-}
-
-/// A record on which the filter gives another verdict than the profile says, if one is found.
-///
-/// Each path of the filter is followed: then one is found, if each comparison tells all that it asks and the filter is wrong, unless
-/// memory or the certificate's format have no room for that many paths. Where they are too many, or some comparison tells less,
-/// one is searched for. Of those beside the rules, calls of the tables come before all others.
-pub fn convict(
-    alloc: Global,
-    profile: &Profile,
-    program: &Accepted<'_>,
-) -> Result<Option<Conviction>, CertifyError>
-    ensures found { FindsConviction profile.now (accepted_insns program.now) result }
-    // Where none is found of a filter that compares steadily, the filter is right.
-    ensures sure { NoneIsRight profile.now (accepted_insns program.now) result }
-    ensures size { IfErr result IsOfSize }
-{
-    is_right(profile);
-    match by_paths(alloc, profile, program) {
-        Ok(certificate) => none_beside(certificate),
-        Err(error) => found_by(alloc, profile, program, error),
-    }
+    by_outline(alloc, profile, program)
 }

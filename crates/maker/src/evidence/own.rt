@@ -1,19 +1,33 @@
-//! Certificates of the compiler's filters, from their outlines.
-ghost use Rattle.std.specs.Prelude.{◌≡◌, IfErr};
+//! Certificates from the outlines of the compiler's filters. Nothing is promised of them: the checker is asked of each.
+ghost use Rattle.std.specs.Prelude.{◌≡◌, ◌↔◌, Err, IfErr, Ok};
 ghost use Rattle.certify.specs.declared.error.CertifyError.TheVariants.{OutOfMemory};
+ghost use Rattle.maker.specs.declared.evidence.hand.Hand.TheVariants.{TooLarge};
 
 use crate::evidence::asked::asked_calls;
 use crate::evidence::hand::Hand;
-use crate::outline::{OutlineError, are_too_many, outlined};
-use bpf_insn::MAX_INSNS;
+use bpf_insn::{Insn, MAX_INSNS, encode_into};
 use certify::CertifyError;
 use kernel_check::Accepted;
+use outline::{OutlineError, are_too_many, outlined};
 use profile::Profile;
-use rule_compile::{CompileError, Known, Outline, Planned, Shorter, plan, shorten};
+use rule_compile::{Known, Outline, Planned, Shorter, plan, shorten};
 use std::alloc::{AllocError, Global};
 
-// The certificate of a filter that is written from its outline. Of a call with too many rules none is written.
-fn written(
+// What is at hand, by what the maker by outlines made. Only its own `TooLarge` is told as that.
+fn hand_of(made: Result<Vec<u8>, OutlineError>) -> Result<Hand, CertifyError>
+    ensures too_large { (result ≡ Ok TooLarge) ↔ (made ≡ Err OutlineError.TooLarge) }
+    ensures memory { IfErr result (λ e. e ≡ OutOfMemory) }
+{
+    match made {
+        Ok(bytes) => Ok(Hand::Certificate(bytes)),
+        Err(OutlineError::OutOfMemory) => Err(CertifyError::OutOfMemory),
+        Err(OutlineError::TooLarge) => Ok(Hand::TooLarge),
+        Err(OutlineError::Unlike) => Ok(Hand::Nothing),
+    }
+}
+
+/// The certificate of a filter that is written from an outline. If a call has too many rules, none is.
+pub(crate) fn by_outline(
     alloc: Global,
     profile: &Profile,
     program: Accepted<'_>,
@@ -27,12 +41,7 @@ fn written(
     if are_too_many(&calls) {
         return Ok(Hand::Nothing);
     }
-    match outlined(alloc, profile, &program.program(), &calls) {
-        Ok(bytes) => Ok(Hand::Certificate(bytes)),
-        Err(OutlineError::OutOfMemory) => Err(CertifyError::OutOfMemory),
-        Err(OutlineError::TooLarge) => Ok(Hand::TooLarge),
-        Err(OutlineError::Unlike) => Ok(Hand::Nothing),
-    }
+    hand_of(outlined(alloc, profile, &program.program(), &calls))
 }
 
 /// A filter that is shorter than the compiler's own, if one is found. None is looked for if the plan is twice as long as a filter may be.
@@ -47,8 +56,37 @@ pub(crate) fn shortened(
     shorten(alloc, profile, own)
 }
 
-// The same of a filter of these bytes, if it is the one that is shorter than the compiler's own.
-fn of_shorter(
+/// The bytes of instructions, if they are no more than a filter has.
+pub(crate) fn bytes_of(alloc: Global, insns: &[Insn]) -> Result<Option<Vec<u8>>, AllocError> {
+    if insns.len() > MAX_INSNS {
+        return Ok(None);
+    }
+    let mut bytes = vec![in alloc; 0u8; 8 * insns.len()]?;
+    encode_into(insns, &mut bytes);
+    Ok(Some(bytes))
+}
+
+// The compiler's own filter, or the one that is shorter, if it has as many instructions as a filter.
+fn as_long(
+    alloc: Global,
+    profile: &Profile,
+    program: &Accepted<'_>,
+    own: &Planned,
+) -> Result<Option<Shorter>, AllocError> {
+    if own.insns.len() != program.program().len() {
+        return shortened(alloc, profile, own);
+    }
+    match bytes_of(alloc, &own.insns)? {
+        Some(bytes) => Ok(Some(Shorter {
+            bytes,
+            known: Known::AsOwn,
+        })),
+        None => Ok(None),
+    }
+}
+
+/// The certificate of a filter that anyone made, written from the compiler's outline, if the compiler makes the very same.
+pub(crate) fn by_same_outline(
     alloc: Global,
     profile: &Profile,
     program: Accepted<'_>,
@@ -56,49 +94,15 @@ fn of_shorter(
 ) -> Result<Hand, CertifyError>
     ensures { IfErr result (λ e. e ≡ OutOfMemory) }
 {
-    match shortened(alloc, profile, own) {
+    match as_long(alloc, profile, &program, own) {
         Ok(Some(made)) if made.bytes.as_slice() == program.program().bytes() => match &made.known {
-            Known::AsOwn => written(alloc, profile, program, &own.outline),
-            Known::Outline(outline) => written(alloc, profile, program, outline),
+            Known::AsOwn => by_outline(alloc, profile, program, &own.outline),
+            Known::Outline(outline) => by_outline(alloc, profile, program, outline),
             Known::Nothing => Ok(Hand::Nothing),
         },
         Ok(_) => Ok(Hand::Nothing),
         Err(_) => Err(CertifyError::OutOfMemory),
     }
-}
-
-// The same of a filter that anyone made, if it is the compiler's own.
-fn of_own(
-    alloc: Global,
-    profile: &Profile,
-    program: Accepted<'_>,
-    own: Planned,
-) -> Result<Hand, CertifyError>
-    ensures { IfErr result (λ e. e ≡ OutOfMemory) }
-{
-    match own.into_filter(alloc) {
-        Ok(made) => {
-            if made.bytes.as_slice() == program.program().bytes() {
-                return written(alloc, profile, program, &made.outline);
-            }
-            Ok(Hand::Nothing)
-        }
-        Err(CompileError::OutOfMemory) => Err(CertifyError::OutOfMemory),
-        Err(CompileError::TooLong) => Ok(Hand::Nothing),
-    }
-}
-
-// The same of a filter that anyone made, if the compiler makes it too.
-fn of_anyone(alloc: Global, profile: &Profile, program: Accepted<'_>) -> Result<Hand, CertifyError>
-    ensures { IfErr result (λ e. e ≡ OutOfMemory) }
-{
-    let Ok(own) = plan(alloc, profile) else {
-        return Err(CertifyError::OutOfMemory);
-    };
-    if own.insns.len() == program.program().len() {
-        return of_own(alloc, profile, program, own);
-    }
-    of_shorter(alloc, profile, program, &own)
 }
 
 /// The certificate of a filter that anyone made, written from the outline of the compiler's: a filter that asks for the same in another
@@ -107,27 +111,15 @@ pub(crate) fn by_compilers_outline(
     alloc: Global,
     profile: &Profile,
     program: Accepted<'_>,
+    own: Option<&Planned>,
 ) -> Result<Hand, CertifyError>
     ensures { IfErr result (λ e. e ≡ OutOfMemory) }
 {
-    match plan(alloc, profile) {
-        Ok(own) => written(alloc, profile, program, &own.outline),
-        Err(_) => Err(CertifyError::OutOfMemory),
+    if let Some(own) = own {
+        return by_outline(alloc, profile, program, &own.outline);
     }
-}
-
-/// The certificate that is written from a filter's outline, which is given where the compiler made it: of any other filter there is
-/// one where the compiler makes the same.
-pub(crate) fn by_outline(
-    alloc: Global,
-    profile: &Profile,
-    program: Accepted<'_>,
-    outline: Option<&Outline>,
-) -> Result<Hand, CertifyError>
-    ensures { IfErr result (λ e. e ≡ OutOfMemory) }
-{
-    match outline {
-        Some(outline) => written(alloc, profile, program, outline),
-        None => of_anyone(alloc, profile, program),
+    match plan(alloc, profile) {
+        Ok(own) => by_outline(alloc, profile, program, &own.outline),
+        Err(_) => Err(CertifyError::OutOfMemory),
     }
 }

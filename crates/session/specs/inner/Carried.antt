@@ -10,7 +10,7 @@ use Rattle.lifecycle.specs.declared.command.Reply.{Reply}
 use Rattle.lifecycle.specs.Commands.{Command, id_of}
 use Rattle.lifecycle.specs.Steps.{step}
 use Rattle.lifecycle.specs.Worlds.{First, World}
-use Rattle.explain.specs.script.Commands as script
+use Rattle.script.specs.Commands as script
 use Rattle.session.specs.declared.bundles.Bundles.{Bundles}
 use Rattle.session.specs.Commands.{CommandIs, Means}
 use Rattle.session.specs.Replies.{no_command_line, reply_line}

@@ -2,7 +2,7 @@
 use Rattle.std.specs.Prelude.{ℕ, ◌≡◌, ◌+◌, ◌++◌, true, List, [], ◌∷◌, take}
 use Rattle.std.specs.List.{list_all}
 use Rattle.texts.specs.Lines.{line_feed}
-use Rattle.explain.specs.script.Grammar.{lacks, max_line}
+use Rattle.script.specs.Grammar.{lacks, max_line}
 
 -- each line with its line feed
 abbrev pub ended : List (List ℕ) → List ℕ

@@ -1,5 +1,5 @@
 use Rattle.std.proofs.Common.{inl, inr, refl, subst}
-use Rattle.explain.specs.Narrow.{IsTold}
+use Rattle.widths.specs.Narrow.{IsTold}
 use Rattle.cli.proofs.adapting.narrowed.Goals as goal
 
 pub returns-then-not-told : goal.returns-then-not-told

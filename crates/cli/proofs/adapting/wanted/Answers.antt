@@ -1,6 +1,6 @@
 use Rattle.std.proofs.Common.{List, ℕ, ap, arith, map, subst, sym, ◌∙◌, ◌≡◌}
 use Rattle.std.specs.Prelude.{filter}
-use Rattle.explain.specs.Words.{AskFor}
+use Rattle.engines.specs.Words.{AskFor}
 use Rattle.cli.proofs.WantedLaws.{how_many, is_other, now_of}
 use Rattle.cli.proofs.adapting.wanted.Goals as goal
 

@@ -1,7 +1,7 @@
 -- The logs so far.
 use Rattle.std.proofs.Common.{◌≡◌, map, take}
 use Rattle.std.specs.List.{zip}
-use Rattle.explain.specs.learn.Logged.{parts_of}
+use Rattle.strace_logs.specs.Logged.{parts_of}
 use Rattle.cli.proofs.logs.logs_of.Given as goal
 
 abbrev pub invariant-loop-place : goal.invariant-loop-place

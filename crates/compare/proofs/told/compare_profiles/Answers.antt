@@ -1,7 +1,14 @@
+use Rattle.std.proofs.Common.{subst}
+use Rattle.call_tables.specs.declared.arch.Family.{Family}
+use Rattle.call_tables.specs.Arch.{family_of}
+use Rattle.compare.specs.Outcome.{IsComparison}
 use Rattle.compare.proofs.ToldLaws.{are_told}
 use Rattle.compare.proofs.told.compare_profiles.Goals as goal
 
 pub returns : goal.returns
 returns c =
-    are_told c.args.atmost c.args.one.now c.args.other.now c.in_ok-comparison.comparison c.told.result c.in_ok-comparison.ensures.is
+    let p = c.args.one.now in
+    let q = c.args.other.now in
+    are_told c.args.atmost (family_of c.args.native) p q c.in_ok-comparison.comparison c.told.result
+    (subst (λ (family : Family). IsComparison family p q c.in_ok-comparison.comparison) c.family.ensures c.in_ok-comparison.ensures.is)
     c.in_ok-comparison.ensures.equal c.told.ensures

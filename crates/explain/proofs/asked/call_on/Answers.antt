@@ -1,8 +1,8 @@
 use Rattle.std.proofs.Common.{ℕ, List, subst, sym}
 use Rattle.std.specs.Prelude.{Some, None}
 use Rattle.std.specs.Option.{option_map}
-use Rattle.explain.specs.script.Grammar.{LineIs}
-use Rattle.explain.specs.script.Requests.{command_of}
+use Rattle.script.specs.Grammar.{LineIs}
+use Rattle.script.specs.Requests.{command_of}
 use Rattle.explain.proofs.AskedLaws.{not_on_line, on_line}
 use Rattle.explain.proofs.asked.call_on.Goals as goal
 

@@ -1,5 +1,5 @@
 use Rattle.explain.specs.Explanation.{told_by}
-use Rattle.explain.proofs.Texts.{from_nothing}
+use Rattle.wording.proofs.Texts.{from_nothing}
 use Rattle.explain.proofs.telling.explained.Goals as goal
 
 pub returns : goal.returns

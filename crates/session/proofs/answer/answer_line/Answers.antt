@@ -1,5 +1,5 @@
 use Rattle.lifecycle.specs.Views.{world_of}
-use Rattle.explain.specs.script.Requests.{command_of}
+use Rattle.script.specs.Requests.{command_of}
 use Rattle.session.specs.inner.Carried.{CarriesOut}
 use Rattle.std.specs.Prelude.{Option, Ok}
 use Rattle.std.proofs.Common.{subst}

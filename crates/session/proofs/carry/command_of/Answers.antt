@@ -1,7 +1,7 @@
 use Rattle.std.proofs.Common.{refl}
 use Rattle.std.specs.Prelude.{◌≡◌}
 use Rattle.std.specs.Option.{option_map}
-use Rattle.explain.specs.script.Requests.{bytes_of}
+use Rattle.script.specs.Requests.{bytes_of}
 use Rattle.session.proofs.carry.command_of.Goals as goal
 
 pub returns-in-Call : goal.returns-in-Call

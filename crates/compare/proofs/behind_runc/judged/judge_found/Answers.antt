@@ -5,12 +5,10 @@ use Rattle.maker.specs.declared.evidence.evidence.Evidence.TheVariants.{Convicti
 use Rattle.compare.proofs.behind_runc.judged.judge_found.Goals as goal
 
 pub returns-in-Some : goal.returns-in-Some
-returns-in-Some c =
-    let native = c.args.native in
-    let bundle = c.args.bundle.now in
+returns-in-Some c = λ native bundle means.
     let filter = c.args.filter.now in
     inl (
       subst (λ (o : Option Conviction). IfSome o (λ whole. IsJudgement native bundle filter (Ok (Convicting whole)))) c.in-Some.is
-          (c.of_whole.ensures native bundle filter c.requires.behind c.requires.found),
+          (c.of_whole.ensures native bundle filter c.requires.behind (c.requires.found native bundle means)),
       λ h. h,
     )

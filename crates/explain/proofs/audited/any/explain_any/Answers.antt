@@ -1,8 +1,8 @@
 use Rattle.std.proofs.Common.{inl}
 use Rattle.std.specs.Prelude.{codes}
 use Rattle.explain.specs.Any.{IsExplained}
-use Rattle.explain.specs.Told.{TellsLine}
-use Rattle.explain.proofs.Results.{if_ok_weaker}
+use Rattle.wording.specs.Told.{TellsLine}
+use Rattle.wording.proofs.Results.{if_ok_weaker}
 use Rattle.explain.proofs.audited.any.explain_any.Goals as goal
 
 pub returns-in-None : goal.returns-in-None

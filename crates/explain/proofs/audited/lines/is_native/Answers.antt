@@ -5,7 +5,7 @@ use Rattle.call_tables.specs.Numbers.{HasCall}
 use Rattle.profile.specs.Policy.{IsNative}
 use Rattle.profile.specs.Said as said
 use Rattle.profile.proofs.SaidLaws.{Decides-is_native}
-use Rattle.explain.proofs.Deciding.{same_answer}
+use Rattle.wording.proofs.Deciding.{same_answer}
 use Rattle.explain.proofs.audited.lines.is_native.Goals as goal
 
 pub returns : goal.returns

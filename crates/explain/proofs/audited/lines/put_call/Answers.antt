@@ -1,6 +1,6 @@
 use Rattle.std.proofs.Common.{◌≡◌, ℕ, List, ◌++◌, subst}
 use Rattle.std.specs.Prelude.{IfOk, Option, string_bytes}
-use Rattle.explain.specs.Phrases as spec
+use Rattle.wording.specs.Phrases as spec
 use Rattle.explain.proofs.audited.lines.put_call.Goals as goal
 
 pub returns-in-None : goal.returns-in-None

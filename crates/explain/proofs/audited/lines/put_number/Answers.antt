@@ -1,7 +1,7 @@
 use Rattle.std.proofs.Common.{◌≡◌, ◌++◌, subst}
 use Rattle.std.specs.Prelude.{IfOk, Option, string_bytes}
 use Rattle.call_tables.specs.declared.arch.Arch.{Arch}
-use Rattle.explain.specs.Phrases as spec
+use Rattle.wording.specs.Phrases as spec
 use Rattle.explain.proofs.audited.lines.put_number.Goals as goal
 
 pub returns-in-None : goal.returns-in-None

@@ -3,8 +3,8 @@ use Rattle.std.specs.Prelude.{Option, Some, None, IfSome}
 use Rattle.call_tables.specs.declared.arch.Arch.{Arch}
 use Rattle.explain.specs.Any.{IsWhat}
 use Rattle.explain.specs.inner.Found.{call_of}
-use Rattle.explain.specs.script.Grammar.{LineIs}
-use Rattle.explain.specs.script.Requests.{command_of}
+use Rattle.script.specs.Grammar.{LineIs}
+use Rattle.script.specs.Requests.{command_of}
 use Rattle.explain.proofs.WhatLaws.{what_found, what_none}
 use Rattle.explain.proofs.audited.what.call_on.Goals as goal
 

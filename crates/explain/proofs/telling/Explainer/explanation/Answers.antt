@@ -4,7 +4,7 @@ use Rattle.call_record.specs.Record.{words}
 use Rattle.call_tables.specs.Arch.{family_of}
 use Rattle.call_tables.specs.declared.arch.Arch.{Arch}
 use Rattle.explain.specs.Explanation.{told_by}
-use Rattle.explain.specs.Reason.{reason_of}
+use Rattle.wording.specs.Reason.{reason_of}
 use Rattle.explain.proofs.telling.Explainer.explanation.Goals as goal
 
 pub returns : goal.returns

@@ -1,0 +1,7 @@
+use Rattle.std.proofs.Common.{refl}
+use Rattle.call_tables.specs.Arch.{native_called}
+use Rattle.cli.proofs.parts.machines_are_called.Goals as goal
+
+pub returns : goal.returns
+unfolding native_called
+returns c = (refl, (refl, (refl, (refl, tt))))

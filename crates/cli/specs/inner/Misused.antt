@@ -1,9 +1,0 @@
--- Which misuse a fault of clap is.
-use Rattle.clap.specs.declared.error.ErrorKind.{ErrorKind}
-use Rattle.clap.specs.declared.error.ErrorKind.TheVariants as kind
-use Rattle.cli.specs.declared.command_line.Misuse.{Misuse}
-use Rattle.cli.specs.declared.command_line.Misuse.TheVariants.{Usage, OutOfMemory}
-
-abbrev pub misuse_by : ErrorKind → Misuse
-misuse_by kind.OutOfMemory = OutOfMemory
-misuse_by _ = Usage

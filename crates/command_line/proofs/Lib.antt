@@ -1,0 +1,6 @@
+mod Told
+mod Grammars
+mod Words
+mod PlainWalks
+mod Faults
+mod Readings

@@ -1,0 +1,92 @@
+//! What each part of a command is, and the words that may stand for it, which are in brackets too, as clap shows them.
+ghost use Rattle.std.specs.Prelude.{◌≡◌, map};
+ghost use Rattle.command_line.specs.Table.{words_of};
+
+/// What a part is.
+#[derive(Clone, Copy)]
+pub enum Meaning {
+    Machine,
+    Bundle,
+    Bundles,
+    Old,
+    New,
+    Compared,
+    ReadAs,
+    Filter,
+    Certified,
+    Record,
+    Certificate,
+    Listing,
+    Form,
+    Call,
+    AskedCall,
+    Config,
+    Word,
+    LearnedLog,
+    ReplayedLog,
+    Command,
+}
+
+impl Meaning {
+    /// The lines that say it.
+    pub(crate) fn text(self) -> &'static str {
+        match self {
+            Meaning::Machine => {
+                "the machine: linux-.. has all calls of Linux 7.3, the others about a hundred\n[possible values: linux-x86-64, linux-aarch64, x86-64, aarch64]"
+            }
+            Meaning::Bundle => { "a file with linux.seccomp of the OCI Runtime Specification" }
+            Meaning::Bundles => { "files with linux.seccomp of the OCI Runtime Specification" }
+            Meaning::Old => { "a file with the old bundle" }
+            Meaning::New => { "a file with the new bundle" }
+            Meaning::Compared => {
+                "all that is asked is that the new bundle allows no more; or both files are filters\n[possible values: atmost, filters]"
+            }
+            Meaning::ReadAs => {
+                "the profile is written as a line for each rule, for another program\n[possible values: rules]"
+            }
+            Meaning::Filter => { "a file with instructions of eight bytes" }
+            Meaning::Certified => {
+                "the filter is of runc, which puts its ENOSYS stub in front; or all calls are reported that differ\n[possible values: runc, all]"
+            }
+            Meaning::Record => { "a file with the 64 bytes of struct seccomp_data" }
+            Meaning::Certificate => { "a file that certify wrote" }
+            Meaning::Listing => { "a file with the text of a filter" }
+            Meaning::Form => {
+                "what is written of the filter: its bytes, its text or its certificate\n[possible values: raw, listing, cert]"
+            }
+            Meaning::Call => {
+                "a call by its name or as MACHINE:NUMBER, and its arguments, which are numbers"
+            }
+            Meaning::AskedCall => {
+                "a call by its name or as MACHINE:NUMBER, and its arguments, which are numbers;\nor a question with one of the words below\n[possible values: any, record, audit]"
+            }
+            Meaning::Config => {
+                "a file: a config.json, an engine's own profile, a section linux.seccomp by itself or a\nKubernetes object"
+            }
+            Meaning::Word => {
+                "how the bundle is made, in any order\n[possible values: widen, first, looser, stricter, like-libseccomp, narrow, log, for,\ndocker, podman, containerd, cap, kernel]"
+            }
+            Meaning::LearnedLog => {
+                "files that 'strace -f -n -e raw=all -o LOG' wrote, and what is asked\n[possible values: keep, for, crun, runc, bwrap, else, errno, enosys, log, kill]"
+            }
+            Meaning::ReplayedLog => {
+                "files that 'strace -f -n -e raw=all -o LOG' wrote\n[possible values: unused]"
+            }
+            Meaning::Command => { "the name of a command" }
+        }
+    }
+
+    /// The words that may stand for it; none are named where any may.
+    pub(crate) fn words(self) -> &'static [&'static str]
+        ensures { map (λ word. word.now) result.now ≡ words_of self }
+    {
+        match self {
+            Meaning::Machine => &["linux-x86-64", "linux-aarch64", "x86-64", "aarch64"],
+            Meaning::Form => &["raw", "listing", "cert"],
+            Meaning::Certified => &["runc", "all"],
+            Meaning::ReadAs => &["rules"],
+            Meaning::Compared => &["atmost", "filters"],
+            _ => &[],
+        }
+    }
+}

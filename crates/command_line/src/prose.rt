@@ -1,0 +1,217 @@
+//! The prose of the pages: what a command does, its statuses, and an example. Its usage and its parts are the table's.
+ghost use Rattle.std.specs.Prelude.{◌≡◌};
+ghost use Rattle.command_line.specs.Prose.{prose_text};
+
+/// A command of the program.
+#[derive(Clone, Copy)]
+pub enum Command {
+    Verdict,
+    Check,
+    Certify,
+    Export,
+    Run,
+    Explain,
+    Read,
+    Lint,
+    Compare,
+    Adapt,
+    Learn,
+    Replay,
+    Record,
+    Assemble,
+    Annotate,
+    Draw,
+    Manual,
+    Version,
+}
+
+const VERDICT: &str =
+    "Runs a filter that passes the kernel's check on a call record of 64 bytes, and returns its verdict.
+Status 0, or 1 and a line that begins with 'refused'.
+
+Example: ccell verdict web.bpf write.rec
+";
+
+const CHECK: &str =
+    "Answers yes if the certificate shows that the filter gives each call record the bundle's verdict.
+Status 0, or 1 and a line that begins with 'no' or 'refused'.
+
+Example: ccell check x86-64 web.json web.bpf web.cert
+";
+
+const CERTIFY: &str =
+    "Writes a certificate that the filter answers what the bundle says, or a counterexample: a call
+record that the filter gets wrong. Standard error explains it.
+With runc, the stub that runc puts in front of a filter is judged by itself: standard error lists
+the calls that it answers ENOSYS. If the bundle refuses them by its default, without a kill, and names none
+of them, the certificate is of the filter behind the stub. Otherwise the whole filter is judged.
+With all, a filter without a certificate gets a record of each call that is found on which it differs.
+Status 0, or 1 and a line that begins with 'no' or 'refused'.
+
+Example: ccell certify linux-x86-64 web.json web.bpf > web.cert
+";
+
+const EXPORT: &str =
+    "Compiles a bundle, and writes its filter if the checker answers yes: raw is eight bytes an
+instruction, listing the text, and cert the certificate.
+Status 0, or 1 and a line that begins with 'no' or 'refused'.
+
+Example: ccell export linux-x86-64 web.json raw > web.bpf
+";
+
+const RUN: &str =
+    "Reads commands from standard input, a line each, and answers each with a line. The bundles are
+called b1, b2 and so on.
+Status 0, or 1 if a bundle has no checked filter.
+
+Example: ccell run x86-64 web.json < life.script
+";
+
+const EXPLAIN: &str =
+    "Reports the call in plain sentences, the bundle's verdict, and why: the entry that
+matches, default or foreign. Under it each entry for that call, whether it matches, and which of its
+conditions hold.
+CALL any: what the bundle says of the call whatever its arguments.
+record HEX: the call of the 128 digits that certify reports.
+audit: the lines that a kernel logs of filters (type=1326), read from standard input.
+Status 0, or 1 and a line that begins with 'refused'.
+
+Example: ccell explain x86-64 web.json write 1 0 0x100000000
+";
+
+const READ: &str =
+    "Reports a bundle's machines, the verdict of calls that no entry matches, and each entry in a line. Of
+a bundle that is refused it reports why and, in a second line, the place.
+With rules, it writes the profile as a program reads it: the machines, the default verdict, and a
+line for each rule, with numbers in place of names.
+Status 0, or 1 and a line that begins with 'refused'.
+
+Example: ccell read linux-x86-64 web.json
+";
+
+const LINT: &str =
+    "Reports each call that the bundle lets through, and refuses if the bits that the kernel does not
+read are 0: with the entry, both values, and the records. No such call is left out; one with too
+many combinations is undecided, and named. Remarks follow, on conditions that mean little, and on
+members that are not read.
+Status 0 if no call gets past and each member is read, or 1.
+
+Example: ccell lint linux-x86-64 web.json
+";
+
+const COMPARE: &str =
+    "Reports all calls that the two answer unlike, a line for each and each direction, and last what is
+proved: same, allows no more, allows no less, or allows more and less. A call with more than
+1,048,576 combinations of answers is undecided, and named.
+Status 0 for same, or 1. With atmost, status 0 if the new bundle allows no more, or 1.
+filters: OLD and NEW are filters. A line stands for each call that is found of which they answer
+unlike verdicts. Status 0 if their bytes are the same, or 1.
+
+Example: ccell compare linux-x86-64 old.json new.json atmost
+";
+
+const ADAPT: &str =
+    "Writes the section that engines take and the other commands read, and reports each change on
+standard error, with its place. Each word stands once at most.
+widen: write it though it lets more through.
+first, looser, stricter or like-libseccomp: which of two entries counts that answer one call unlike.
+narrow: compare only the bits that the kernel reads.
+log: log what would be refused.
+for docker|podman|containerd: work out an engine's own profile.
+cap CAP.. or cap all, and kernel 6.12: the capabilities and the kernel that it is worked out for.
+bundle, as the last word: write a bundle, a config.json with the section in it.
+Status 0, or 1 and the reason on standard error, or a line that begins with 'refused'.
+
+Example: ccell adapt linux-x86-64 config.json first > web.json
+";
+
+const LEARN: &str =
+    "Writes a section, which engines take, that allows each call of the logs. Standard error reports
+what was read, and what was added and why. Beside the logs may stand:
+keep CALL:ARG[,ARG]: compare these arguments with the values seen; once for each call.
+for crun|runc|bwrap|docker|podman: add the calls that a runtime makes behind the load.
+else errno|enosys|log|kill: the answer to all other calls.
+bundle, as the last word: write a bundle, a config.json with the section in it.
+Status 0, or 1 and a line that begins with 'refused'.
+
+Example: ccell learn linux-x86-64 web.log for crun > web.json
+";
+
+const REPLAY: &str =
+    "Reports each call of logs that the bundle refuses: why, how often, and where first. With unused
+behind the logs, it reports each entry that no call of the logs matches.
+Status 0 if nothing is refused, or 1.
+
+Example: ccell replay linux-x86-64 web.json web.log unused
+";
+
+const RECORD: &str = "Writes the 64 bytes of a call record, as verdict takes it.
+Status 0, or 1 and the line 'refused call'.
+
+Example: ccell record x86-64 write 1 0 4097 > write.rec
+";
+
+const ASSEMBLE: &str =
+    "Writes the bytes of the filter whose listing the file is, as export writes listings.
+Status 0, or 1 and a line that begins with 'refused listing'.
+
+Example: ccell assemble web.listing > web.bpf
+";
+
+const ANNOTATE: &str =
+    "Shows each instruction with its position, where jumps lead, and the names of calls, arguments and
+actions. An L stands before a position that jumps lead to.
+Status 0, or 1 if the kernel refuses the filter, with the cause in the last line.
+
+Example: ccell annotate linux-x86-64 web.bpf
+";
+
+const DRAW: &str =
+    "Shows a filter as a graph in the language of Graphviz: a node is a block of instructions, with the
+names that annotate shows, and coloured by its action; an edge leads to the next block, by the
+outcome of the test.
+Status 0, or 1 if the kernel refuses the filter, with the cause in the last line.
+
+Example: ccell draw linux-x86-64 web.bpf | dot -Tsvg > web.svg
+";
+
+const MANUAL: &str = "Reports how a command is used, or which commands there are.
+Status 0, or 2 if there is no such command.
+
+Example: ccell manual explain
+";
+
+const VERSION: &str =
+    "Reports the edition of the program, what it reads, and with which kit it was proved.
+
+Example: ccell version
+";
+
+impl Command {
+    /// Its prose.
+    #[tactic(auto, unfolding(crate::specs::Prose::prose_text))]
+    pub(crate) fn prose(self) -> &'static str
+        ensures { result.now ≡ prose_text self }
+    {
+        match self {
+            Command::Verdict => VERDICT,
+            Command::Check => CHECK,
+            Command::Certify => CERTIFY,
+            Command::Export => EXPORT,
+            Command::Run => RUN,
+            Command::Explain => EXPLAIN,
+            Command::Read => READ,
+            Command::Lint => LINT,
+            Command::Compare => COMPARE,
+            Command::Adapt => ADAPT,
+            Command::Learn => LEARN,
+            Command::Replay => REPLAY,
+            Command::Record => RECORD,
+            Command::Assemble => ASSEMBLE,
+            Command::Annotate => ANNOTATE,
+            Command::Draw => DRAW,
+            Command::Manual => MANUAL,
+            Command::Version => VERSION,
+        }
+    }
+}

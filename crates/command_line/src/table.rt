@@ -1,0 +1,198 @@
+//! The one table of commands: their names, how many arguments they take, their parts in order, and what each is for.
+ghost use Rattle.std.specs.Prelude.{◌≡◌, map};
+ghost use Rattle.command_line.specs.Table.{row, rows};
+
+use crate::meanings::Meaning;
+use crate::prose::Command;
+
+/// A part of a command: its name, and what it is.
+pub type Part = (&'static str, Meaning);
+
+/// How many arguments a command takes, at least and at most.
+pub type Count = (usize, usize);
+
+/// A command: its name, how many arguments it takes, its parts, what it is for, and which one it is. Each part is one argument; the last
+/// may be left out or stand for several, by the count.
+pub type Entry = (&'static str, Count, &'static [Part], &'static str, Command);
+
+// As many arguments as there are.
+const MANY: usize = usize::MAX;
+
+// The parts, each with what it is.
+const MACHINE: Part = ("MACHINE", Meaning::Machine);
+
+const BUNDLE: Part = ("BUNDLE", Meaning::Bundle);
+
+const BUNDLES: Part = ("BUNDLE", Meaning::Bundles);
+
+const OLD: Part = ("OLD", Meaning::Old);
+
+const NEW: Part = ("NEW", Meaning::New);
+
+const COMPARED: Part = ("WORD", Meaning::Compared);
+
+const READ_AS: Part = ("WORD", Meaning::ReadAs);
+
+const FILTER: Part = ("FILTER", Meaning::Filter);
+
+const CERTIFIED: Part = ("WORD", Meaning::Certified);
+
+const RECORD: Part = ("RECORD", Meaning::Record);
+
+const CERTIFICATE: Part = ("CERTIFICATE", Meaning::Certificate);
+
+const LISTING: Part = ("LISTING", Meaning::Listing);
+
+const FORM: Part = ("FORM", Meaning::Form);
+
+const CALL: Part = ("CALL", Meaning::Call);
+
+const ASKED_CALL: Part = ("CALL", Meaning::AskedCall);
+
+const CONFIG: Part = ("CONFIG", Meaning::Config);
+
+const WORD: Part = ("WORD", Meaning::Word);
+
+const LEARNED_LOG: Part = ("LOG", Meaning::LearnedLog);
+
+const REPLAYED_LOG: Part = ("LOG", Meaning::ReplayedLog);
+
+const COMMAND: Part = ("COMMAND", Meaning::Command);
+
+/// The commands of the program.
+pub const COMMANDS: &[Entry] = &[
+    (
+        "verdict",
+        (2, 2),
+        &[FILTER, RECORD],
+        "what a filter answers to one call",
+        Command::Verdict,
+    ),
+    (
+        "check",
+        (4, 4),
+        &[MACHINE, BUNDLE, FILTER, CERTIFICATE],
+        "whether a filter does what a bundle says, by a certificate",
+        Command::Check,
+    ),
+    (
+        "certify",
+        (3, 4),
+        &[MACHINE, BUNDLE, FILTER, CERTIFIED],
+        "a certificate for any filter, or a counterexample",
+        Command::Certify,
+    ),
+    (
+        "export",
+        (3, 3),
+        &[MACHINE, BUNDLE, FORM],
+        "a checked filter for a bundle",
+        Command::Export,
+    ),
+    (
+        "run",
+        (2, MANY),
+        &[MACHINE, BUNDLES],
+        "containers on the modelled kernel, by a script",
+        Command::Run,
+    ),
+    (
+        "explain",
+        (3, MANY),
+        &[MACHINE, BUNDLE, ASKED_CALL],
+        "what a bundle says of one call, and why",
+        Command::Explain,
+    ),
+    (
+        "read",
+        (2, 3),
+        &[MACHINE, BUNDLE, READ_AS],
+        "what a bundle means, or where it is wrong",
+        Command::Read,
+    ),
+    (
+        "lint",
+        (2, 2),
+        &[MACHINE, BUNDLE],
+        "the calls that get past a bundle by bits that the kernel does not read",
+        Command::Lint,
+    ),
+    (
+        "compare",
+        (3, 4),
+        &[MACHINE, OLD, NEW, COMPARED],
+        "whether a new bundle says the same as an old one, or allows no more",
+        Command::Compare,
+    ),
+    (
+        "adapt",
+        (2, MANY),
+        &[MACHINE, CONFIG, WORD],
+        "a profile of what an engine hands to its runtime",
+        Command::Adapt,
+    ),
+    (
+        "learn",
+        (2, MANY),
+        &[MACHINE, LEARNED_LOG],
+        "a profile that allows what logs of strace show",
+        Command::Learn,
+    ),
+    (
+        "replay",
+        (3, MANY),
+        &[MACHINE, BUNDLE, REPLAYED_LOG],
+        "the calls of logs of strace that a bundle refuses",
+        Command::Replay,
+    ),
+    (
+        "record",
+        (2, MANY),
+        &[MACHINE, CALL],
+        "the call record of a call",
+        Command::Record,
+    ),
+    (
+        "assemble",
+        (1, 1),
+        &[LISTING],
+        "the bytes of a listing",
+        Command::Assemble,
+    ),
+    (
+        "annotate",
+        (2, 2),
+        &[MACHINE, FILTER],
+        "the listing of any filter, with what its lines mean",
+        Command::Annotate,
+    ),
+    (
+        "draw",
+        (2, 2),
+        &[MACHINE, FILTER],
+        "the graph of any filter, in the language of Graphviz",
+        Command::Draw,
+    ),
+    (
+        "manual",
+        (0, 1),
+        &[COMMAND],
+        "how a command is used",
+        Command::Manual,
+    ),
+    (
+        "version",
+        (0, 0),
+        &[],
+        "the edition of the program",
+        Command::Version,
+    ),
+];
+
+/// The commands of the table.
+#[tactic(auto, unfolding(crate::specs::Table::rows))]
+pub(crate) fn commands() -> &'static [Entry]
+    ensures { map row result.now ≡ rows }
+{
+    COMMANDS
+}

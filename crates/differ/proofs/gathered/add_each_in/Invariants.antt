@@ -1,0 +1,12 @@
+use Rattle.std.proofs.Common.{take}
+use Rattle.std.specs.List.{All}
+use Rattle.differ.specs.Differences.{AreTold, IsAnswered}
+use Rattle.differ.specs.inner.Extended.{Extends}
+use Rattle.differ.proofs.gathered.add_each_in.Given as goal
+
+abbrev pub invariant-loop-call : goal.invariant-loop-call
+invariant-loop-call l = record {
+  told : AreTold l.first l.second l.direction l.initial.told → AreTold l.first l.second l.direction l.told;
+  extends : Extends l.initial.told l.told;
+  answered : All (λ call. IsAnswered l.first l.second l.told call.token call.nr l.direction) (take l.call-index l.list);
+}

@@ -1,0 +1,41 @@
+use Rattle.std.proofs.Common.{◌≡◌, ℕ, List, true, ap, ◌∙◌, subst}
+use Rattle.call_tables.specs.Machines.{aarch64_token, arm_token, x86_64_token, x86_token}
+use Rattle.differ.specs.Differences.{AreTold, IsAnswered, IsCovered}
+use Rattle.differ.specs.declared.direction.Direction.{Direction}
+use Rattle.differ.specs.declared.direction.Direction.TheVariants.{Any}
+use Rattle.differ.specs.declared.gathered.Differences.{Differences}
+use Rattle.differ.specs.declared.named.Call.{Call}
+use Rattle.differ.specs.inner.Named.{AreCovered, is_named}
+use Rattle.differ.proofs.GatheredLaws.{all_covered, answered_stays, none_told}
+use Rattle.differ.proofs.NamedLaws.{AreListed}
+use Rattle.differ.proofs.gathered.all_differences.Goals as goal
+
+pub returns : goal.returns
+returns c =
+    let p = c.args.first.now in
+    let q = c.args.second.now in
+    let named : List Call = c.in_ok-named.named.items in
+    let rest : List Call = c.in_ok-rest.rest.items in
+    let told : Differences = c.add_all_rest.new.told in
+    let listed : AreListed p q named rest = record {
+      clear_p = c.in_ok-named.ensures.clear_first;
+      clear_q = c.in_ok-named.ensures.clear_second;
+      first = c.in_ok-named.ensures.first;
+      second = c.in_ok-named.ensures.second;
+      x86_64 = subst (λ (ns : List Call). AreCovered ns rest x86_64_token) c.deref.ensures.value c.in_ok-rest.ensures.x86_64;
+      x86 = subst (λ (ns : List Call). AreCovered ns rest x86_token) c.deref.ensures.value c.in_ok-rest.ensures.x86;
+      aarch64 = subst (λ (ns : List Call). AreCovered ns rest aarch64_token) c.deref.ensures.value c.in_ok-rest.ensures.aarch64;
+      arm = subst (λ (ns : List Call). AreCovered ns rest arm_token) c.deref.ensures.value c.in_ok-rest.ensures.arm;
+    } in
+    let answered : (t n : ℕ) (e : Direction) → is_named named t n ≡ true → IsAnswered p q told t n e = λ t n e h.
+    answered_stays p q _ told t n e c.in_ok-add_all_rest.ensures.extends
+    (c.in_ok-add_each.ensures.answered t n e (ap (λ l. is_named l t n) c.deref-2.ensures.value ∙ h)) in
+    let covered : (t n : ℕ) (e : Direction) → is_named rest t n ≡ true → IsCovered p q told t n e = λ t n e h.
+    c.in_ok-add_all_rest.ensures.covered t n e (ap (λ l. is_named l t n) c.deref-3.ensures.value ∙ h) in
+    record {
+      told = c.in_ok-add_all_rest.ensures.told (c.in_ok-add_each.ensures.told (none_told p q Any _ c.new.ensures.items c.new-2.ensures.items));
+      of_asked = λ t n e h. answered t n e (c.in_ok-named.ensures.asked t n h);
+      of_first = λ t n e h. answered t n e (c.in_ok-named.ensures.first t n h);
+      of_second = λ t n e h. answered t n e (c.in_ok-named.ensures.second t n h);
+      others = λ t n e. all_covered p q named rest told e listed (λ t n. answered t n e) (λ t n. covered t n e) t n;
+    }

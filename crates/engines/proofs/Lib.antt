@@ -1,0 +1,7 @@
+mod ReadLaws
+mod ItemLaws
+mod WordLaws
+mod HeardLaws
+pub mod SettledLaws
+mod CoveringLaws
+mod HeadLaws

@@ -1,0 +1,4 @@
+pub mod Adapted
+pub mod Words
+pub mod Settled
+pub mod inner

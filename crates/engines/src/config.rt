@@ -1,0 +1,84 @@
+//! The section of a configuration, and its edition.
+use crate::changes::Changes;
+use crate::keys::{SECTION, member_at, tell_keys, tell_other_cases};
+use crate::place::Place;
+use crate::text::Text;
+use serde_json::Value;
+
+/// A section, and what stands before it in a place.
+#[derive(Clone, Copy)]
+pub(crate) struct Section<'a> {
+    pub(crate) value: &'a Value,
+    pub(crate) top: &'static str,
+}
+
+// Whether a value is a section by itself.
+fn is_by_itself(config: &Value) -> bool {
+    config.get("linux").is_none() && config.get("defaultAction").is_some()
+}
+
+// The section of a Kubernetes object, a SeccompProfile.
+fn spec_of(config: &Value) -> Option<&Value> {
+    let spec = config.get("spec")?;
+    if is_by_itself(spec) { Some(spec) } else { None }
+}
+
+/// The section of a configuration, of a Kubernetes object, or one that stands by itself.
+pub(crate) fn section_of(config: &Value) -> Option<Section<'_>> {
+    if is_by_itself(config) {
+        return Some(Section {
+            value: config,
+            top: "",
+        });
+    }
+    if let Some(value) = spec_of(config) {
+        return Some(Section {
+            value,
+            top: "spec.",
+        });
+    }
+    let linux = config.get("linux")?;
+    Some(Section {
+        value: member_at(linux, "seccomp")?,
+        top: "linux.seccomp.",
+    })
+}
+
+/// Tells the keys of what stands above a section, and its own.
+pub(crate) fn tell_section_keys(
+    changes: &mut Changes,
+    config: &Value,
+    section: Section<'_>,
+    is_for: bool,
+) {
+    let place = Place::top(section.top);
+    if section.top == "linux.seccomp." {
+        tell_other_cases(changes, Place::top(""), config);
+        if let Some(linux) = config.get("linux") {
+            tell_other_cases(changes, Place::top("linux."), linux);
+        }
+    }
+    tell_keys(changes, place, section.value, SECTION, is_for);
+}
+
+const EDITION: &str = "\"1.0.2\"";
+
+fn is_read(edition: &str) -> bool {
+    edition == "1.0.2" || edition == "1.1.0"
+}
+
+/// Adds the edition of a configuration: one of the first that is not read is written as one that is.
+pub(crate) fn put_edition(text: &mut Text, changes: &mut Changes, config: &Value) {
+    let place = Place::top("").key("ociVersion");
+    let Some(member) = member_at(config, "ociVersion") else {
+        changes.tell(place, "missing, and written as 1.0.2", false);
+        return text.put(EDITION);
+    };
+    let edition = member.as_str().unwrap_or("");
+    if is_read(edition) || !edition.starts_with("1.") {
+        return text.put(format_args!("{member}"));
+    }
+    let what = "is not read, and is written as 1.0.2";
+    changes.tell_text(place, edition, what, false);
+    text.put(EDITION);
+}

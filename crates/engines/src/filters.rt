@@ -1,0 +1,162 @@
+//! For which containers an entry of an engine's own profile counts.
+use crate::changes::Changes;
+use crate::kernels::{Kernel, kernel_of};
+use crate::keys::{FILTER, is_void, tell_unknown};
+use crate::place::Place;
+use crate::settings::Settings;
+use crate::words::Container;
+use call_tables::Arch;
+use serde_json::Value;
+
+// What engines call a machine.
+fn machine_name(native: Arch) -> &'static str {
+    match native.scmp() {
+        "SCMP_ARCH_X86_64" => "amd64",
+        "SCMP_ARCH_X86" => "x86",
+        "SCMP_ARCH_X32" => "x32",
+        "SCMP_ARCH_AARCH64" => "arm64",
+        _ => "arm",
+    }
+}
+
+// The member under a key of a filter.
+fn member_of<'a>(entry: &'a Value, filter: &str, key: &str) -> Option<&'a Value> {
+    let filter = entry.get(filter)?;
+    filter.get(key)
+}
+
+// The list under a key of a filter, empty where there is none.
+fn list_at<'a>(entry: &'a Value, filter: &str, key: &str) -> &'a [Value] {
+    match member_of(entry, filter, key).and_then(Value::as_array) {
+        Some(list) => list.as_slice(),
+        None => &[],
+    }
+}
+
+// The edition of a kernel in a filter, if there is one.
+fn edition_in(entry: &Value, filter: &str) -> Option<Kernel> {
+    let edition = member_of(entry, filter, "minKernel")?;
+    kernel_of(edition.as_str()?)
+}
+
+// Whether a list has a text.
+fn has(list: &[Value], text: &str) -> bool {
+    list.iter().any(|member| member.as_str() == Some(text))
+}
+
+// The first of the capabilities of a list that the container has, or has not.
+fn first_capability<'a>(list: &'a [Value], container: Container, has: bool) -> Option<&'a str> {
+    let found = list.iter().find(|name| container.capabilities.have(name.as_str().unwrap_or(""))
+        == has)?;
+    Some(found.as_str().unwrap_or(""))
+}
+
+// Whether an entry is for other machines.
+fn is_for_others(native: Arch, entry: &Value) -> bool {
+    let machine = machine_name(native);
+    let included = list_at(entry, "includes", "arches");
+    has(list_at(entry, "excludes", "arches"), machine)
+        || (!included.is_empty() && !has(included, machine))
+}
+
+// Whether an entry is for other kernels.
+fn is_for_other_kernels(container: Container, entry: &Value) -> bool {
+    if let Some(edition) = edition_in(entry, "includes") {
+        if !container.kernel.has(edition) {
+            return true;
+        }
+    }
+    match edition_in(entry, "excludes") {
+        Some(edition) => container.kernel.has(edition),
+        None => false,
+    }
+}
+
+// Tells that an entry does not count, and why.
+fn tell_not_counting(changes: &mut Changes, place: Place<'_>, joined: &str, what: &str) {
+    changes
+        .lines
+        .put(format_args!("{place}: does not count {joined} {what}\n"));
+}
+
+// Whether an entry counts for a container, which is told if it does not.
+fn counts_for(
+    changes: &mut Changes,
+    native: Arch,
+    container: Container,
+    place: Place<'_>,
+    entry: &Value,
+) -> bool {
+    if is_for_others(native, entry) {
+        tell_not_counting(changes, place, "on", machine_name(native));
+        return false;
+    }
+    if let Some(name) = first_capability(list_at(entry, "excludes", "caps"), container, true) {
+        tell_not_counting(changes, place, "with", name);
+        return false;
+    }
+    if let Some(name) = first_capability(list_at(entry, "includes", "caps"), container, false) {
+        tell_not_counting(changes, place, "without", name);
+        return false;
+    }
+    if is_for_other_kernels(container, entry) {
+        let kernel = container.kernel;
+        changes
+            .lines
+            .put(format_args!("{place}: does not count on {kernel}\n"));
+        return false;
+    }
+    true
+}
+
+// Whether a member of a filter is one that is read: a list of texts, or an edition of a kernel.
+fn is_read(key: &str, member: &Value) -> bool {
+    if is_void(member) {
+        return true;
+    }
+    if key == "minKernel" {
+        return kernel_of(member.as_str().unwrap_or("")).is_some();
+    }
+    match member.as_array() {
+        Some(list) => list.iter().all(|name| name.is_string()),
+        None => false,
+    }
+}
+
+// Tells what is not read of a filter.
+fn tell_filter(changes: &mut Changes, place: Place<'_>, filter: &Value) {
+    let Some(members) = filter.as_object() else {
+        if !filter.is_null() {
+            changes.refuse(place, "no object, where one is asked for");
+        }
+        return;
+    };
+    tell_unknown(changes, place, filter, FILTER);
+    for (key, member) in members.iter() {
+        if FILTER.iter().any(|known| *known == key.as_str()) && !is_read(key.as_str(), member) {
+            changes.refuse(
+                place,
+                "a member that is no list of texts, or no kernel's edition",
+            );
+        }
+    }
+}
+
+/// Whether an entry counts: it says for which containers it does, and the profile is worked out for one of them.
+pub(crate) fn counts(
+    changes: &mut Changes,
+    settings: &Settings<'_>,
+    place: Place<'_>,
+    entry: &Value,
+) -> bool {
+    let Some(container) = settings.container() else {
+        return true;
+    };
+    if let Some(filter) = entry.get("includes") {
+        tell_filter(changes, place.key("includes"), filter);
+    }
+    if let Some(filter) = entry.get("excludes") {
+        tell_filter(changes, place.key("excludes"), filter);
+    }
+    counts_for(changes, settings.native, container, place, entry)
+}

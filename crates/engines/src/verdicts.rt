@@ -1,0 +1,82 @@
+//! The actions and the errors of a section and of its entries.
+use crate::actions::{KILL, KILL_THREAD, refuses, text_at};
+use crate::changes::Changes;
+use crate::errors::error_named;
+use crate::keys::put_member;
+use crate::place::Place;
+use crate::settings::Settings;
+use crate::text::Text;
+use serde_json::Value;
+
+/// The keys of an action, of its error by number, and of its error by name.
+#[derive(Clone, Copy)]
+pub(crate) struct VerdictKeys {
+    action: &'static str,
+    number: &'static str,
+    name: &'static str,
+}
+
+/// Those of a section.
+pub(crate) const OF_SECTION: VerdictKeys = VerdictKeys {
+    action: "defaultAction",
+    number: "defaultErrnoRet",
+    name: "defaultErrno",
+};
+
+/// Those of an entry.
+pub(crate) const OF_ENTRY: VerdictKeys = VerdictKeys {
+    action: "action",
+    number: "errnoRet",
+    name: "errno",
+};
+
+// Adds the action under a key, by the name that it is read by, behind the members that the object has.
+fn put_action(text: &mut Text, changes: &mut Changes, place: Place<'_>, object: &Value, key: &str) {
+    if text_at(object, key) != KILL_THREAD {
+        return put_member(text, object, key);
+    }
+    let what = "SCMP_ACT_KILL_THREAD, and written as SCMP_ACT_KILL, which means the same";
+    changes.tell(place.key(key), what, false);
+    text.separate(", ");
+    text.put(format_args!("\"{key}\": \"{KILL}\""));
+}
+
+// Adds the error of an action. One by its name counts before one by its number, as podman reads it.
+fn put_error(
+    text: &mut Text,
+    changes: &mut Changes,
+    place: Place<'_>,
+    object: &Value,
+    keys: VerdictKeys,
+) {
+    let name = text_at(object, keys.name);
+    if name == "" {
+        return put_member(text, object, keys.number);
+    }
+    let Some(number) = error_named(name) else {
+        return changes.refuse(place.key(keys.name), "no error that is known");
+    };
+    let key = keys.number;
+    text.separate(", ");
+    text.put(format_args!("\"{key}\": {number}"));
+}
+
+/// Adds an action and its error, or that the call is logged where refusals are to be.
+pub(crate) fn put_verdict(
+    text: &mut Text,
+    changes: &mut Changes,
+    settings: &Settings<'_>,
+    place: Place<'_>,
+    object: &Value,
+    keys: VerdictKeys,
+) {
+    let action = text_at(object, keys.action);
+    if settings.wanted.logs && refuses(action) {
+        let key = keys.action;
+        changes.tell_text(place.key(key), action, "is written as SCMP_ACT_LOG", false);
+        text.separate(", ");
+        return text.put(format_args!("\"{key}\": \"SCMP_ACT_LOG\""));
+    }
+    put_action(text, changes, place, object, keys.action);
+    put_error(text, changes, place, object, keys);
+}

@@ -1,8 +1,0 @@
--- The calls so far are allowed.
-use Rattle.std.proofs.Common.{take}
-use Rattle.std.specs.List.{All}
-use Rattle.explain.specs.learn.Taken.{AllowsEach}
-use Rattle.explain.proofs.learn.judging.allows_seen.Given as goal
-
-abbrev pub invariant-loop-seen : goal.invariant-loop-seen
-invariant-loop-seen l = All (AllowsEach l.profile) (take l.seen-index l.calls)

@@ -1,6 +1,0 @@
-use Rattle.std.proofs.Common.{refl}
-use Rattle.explain.proofs.WishLaws.{with_keep}
-use Rattle.explain.proofs.learn.wish.put_keep.Goals as goal
-
-pub returns : goal.returns
-returns c = λ before asks _. with_keep before c.args.wish.now asks _ _ c.args.word.now refl refl refl refl

@@ -1,6 +1,0 @@
-use Rattle.std.proofs.Common.{◌≡◌, drop}
-use Rattle.explain.specs.Rows.{rows, readings_in}
-use Rattle.explain.proofs.narrow.arguments.rows.find.Given as goal
-
-abbrev pub invariant-loop-row : goal.invariant-loop-row
-invariant-loop-row l = readings_in (rows (drop l.row-index l.table)) l.name ≡ readings_in (rows l.table) l.name

@@ -1,8 +1,0 @@
-use Rattle.std.proofs.Common.{take}
-use Rattle.std.specs.List.{AllZip}
-use Rattle.call_tables.specs.Arch.{token_of}
-use Rattle.explain.specs.Lowered.{StandsFor}
-use Rattle.explain.proofs.narrow.narrowing.lowering.stand_ins.Given as goal
-
-abbrev pub invariant-loop-cond : goal.invariant-loop-cond
-invariant-loop-cond l = AllZip (StandsFor (token_of l.rule.arch) l.rule.nr) l.lower.items (take l.cond-index l.rule.conds.items)

@@ -1,6 +1,0 @@
-use Rattle.std.proofs.Common.{take}
-use Rattle.explain.specs.Parts.{AreOfPatterns}
-use Rattle.explain.proofs.narrow.narrowing.parts.of_patterns.Given as goal
-
-abbrev pub invariant-loop-pattern : goal.invariant-loop-pattern
-invariant-loop-pattern l = AreOfPatterns l.index (take l.pattern-index l.patterns) l.list.items

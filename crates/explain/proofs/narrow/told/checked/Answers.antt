@@ -1,5 +1,0 @@
-use Rattle.explain.proofs.NarrowToldLaws.{not_done}
-use Rattle.explain.proofs.narrow.told.checked.Goals as goal
-
-pub returns-in-None : goal.returns-in-None
-returns-in-None c = λ bundle means. not_done c.args.native bundle c.nothing.result c.nothing.ensures

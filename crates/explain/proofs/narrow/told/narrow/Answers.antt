@@ -1,5 +1,0 @@
-use Rattle.explain.proofs.NarrowToldLaws.{none_narrowed}
-use Rattle.explain.proofs.narrow.told.narrow.Goals as goal
-
-pub returns-in-Err : goal.returns-in-Err
-returns-in-Err c = none_narrowed c.args.native c.args.bundle.now c.refused.result c.refused.ensures

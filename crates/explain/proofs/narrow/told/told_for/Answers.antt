@@ -1,5 +1,0 @@
-use Rattle.explain.proofs.NarrowToldLaws.{not_done}
-use Rattle.explain.proofs.narrow.told.told_for.Goals as goal
-
-pub returns-then-is_refused : goal.returns-then-is_refused
-returns-then-is_refused c = λ bundle means. not_done c.args.native bundle c.nothing.result c.nothing.ensures

@@ -1,0 +1,11 @@
+-- What is told, and what is to be told of the conditions that are left, is all.
+use Rattle.std.proofs.Common.{◌≡◌, ◌++◌, drop}
+use Rattle.std.specs.Prelude.{codes, string_bytes}
+use Rattle.std.specs.List.{flat_map}
+use Rattle.wording.specs.Phrases.{condition_text}
+use Rattle.show.proofs.entries.put_further.Given as goal
+
+abbrev pub invariant-loop-cond : goal.invariant-loop-cond
+invariant-loop-cond l =
+    string_bytes l.text ++ flat_map (λ c. codes " and " ++ condition_text c) (drop l.cond-index l.conds)
+    ≡ string_bytes l.fn.text ++ flat_map (λ c. codes " and " ++ condition_text c) l.conds

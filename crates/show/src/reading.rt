@@ -1,0 +1,344 @@
+//! What a bundle means, or where it is wrong.
+ghost use Rattle.std.specs.Prelude.{◌≡◌, ◌≢◌, ◌≤◌, ◌⊎◌, ◌++◌, ◌∷◌, [], ℕ, List, IfOk, IfSome, codes, false, length, string_bytes};
+ghost use Rattle.texts.specs.Lines.{line_feed};
+ghost use Rattle.profile_json.specs.Breaks.{Breaks};
+ghost use Rattle.profile_json.specs.ByEntry.{AreRulesOf};
+ghost use Rattle.profile_json.specs.Fault.{fault_of, text_of};
+ghost use Rattle.profile_json.specs.Meaning.{IsText, Means};
+ghost use Rattle.serde_json.specs.Data.{Data};
+ghost use Rattle.wording.specs.Told.{TellsText};
+ghost use Rattle.show.specs.Read as spec;
+
+use crate::edition::{READ, of_first_edition};
+use crate::entries::put_bundle;
+use crate::json_text::{Trimmed, fault_of, without_unread};
+use crate::near::put_nearest;
+use crate::place::{Place, shape_of};
+use crate::search::{Found, Wanted, find, find_in_config};
+use crate::unread::with_unread;
+use call_tables::{Arch, Family};
+use profile::Profile;
+use profile_json::{EntryRules, ProfileError, read_bundle, rules_by_entry};
+use serde_json::Value;
+use std::alloc::{AllocError, Global};
+use std::fmt::Write;
+use wording::{Told, refused_profile};
+
+// Adds why a text is no name that is known.
+fn put_unknown(text: &mut String, found: &Found<'_>, what: &str) -> Result<(), AllocError> {
+    let name = found.value.and_then(Value::as_str).unwrap_or("");
+    write!(text, "{name:?} is no {what}")
+}
+
+// Adds what is wrong at the place of a fault.
+fn put_why(
+    text: &mut String,
+    alloc: Global,
+    family: Family,
+    found: &Found<'_>,
+    error: &ProfileError,
+) -> Result<(), AllocError> {
+    let asked = found.asked.name();
+    match error {
+        ProfileError::WrongType => {
+            let shape = found.value.map_or("nothing", shape_of);
+            write!(text, "{shape}, where {asked} is asked for")
+        }
+        ProfileError::MissingKey => write!(text, "missing, where {asked} is asked for"),
+        ProfileError::NoSeccomp => write!(text, "missing, where {asked} is asked for"),
+        ProfileError::Version => put_unknown(text, found, "edition that is read: 1.0.2, 1.1.0"),
+        ProfileError::UnknownAction => put_unknown(text, found, "action that is known"),
+        ProfileError::UnknownArch => put_unknown(text, found, "architecture that is known"),
+        ProfileError::UnknownOp => put_unknown(text, found, "operator that is known"),
+        ProfileError::UnknownCall(name) => {
+            put_unknown(text, found, "call of these machines")?;
+            put_nearest(text, alloc, family, name.as_str())
+        }
+        ProfileError::NativeMissing => text.push_str("the native machine is not listed"),
+        ProfileError::EmptyNames => text.push_str("an empty list"),
+        ProfileError::ErrnoNotTaken => text.push_str("beside an action that takes no number"),
+        ProfileError::ErrnoRange => text.push_str("above 4095"),
+        ProfileError::BadIndex => text.push_str("above 5"),
+        ProfileError::RepeatedIndex => text.push_str("an argument that an earlier member names"),
+        ProfileError::StrayDatum => text.push_str("a bit that is not in value"),
+        ProfileError::UnsupportedKey => text.push_str("a key that is not supported"),
+        _ => text.push_str("too many"),
+    }
+}
+
+// Adds the line of a fault that was found.
+fn put_found(
+    text: &mut String,
+    alloc: Global,
+    family: Family,
+    found: &Found<'_>,
+    error: &ProfileError,
+) -> Result<(), AllocError> {
+    let place = found.place;
+    write!(text, "{place}: ")?;
+    put_why(text, alloc, family, found, error)?;
+    text.push_str("\n")
+}
+
+// The places of the entries that overlap, where that is the fault.
+fn overlap_in(error: &ProfileError) -> Option<(usize, usize)> {
+    match error {
+        ProfileError::Overlap { first, second, .. } => Some((*first, *second)),
+        _ => None,
+    }
+}
+
+// Adds the line of the entries that overlap.
+fn put_overlap(text: &mut String, first: usize, second: usize) -> Result<(), AllocError> {
+    writeln!(
+        text,
+        "linux.seccomp.syscalls[{second}]: another action for a call that linux.seccomp.syscalls[{first}] matches too"
+    )
+}
+
+// Adds the line of the place of a fault, if it was found.
+fn put_if_found(
+    text: &mut String,
+    alloc: Global,
+    family: Family,
+    found: Option<Found<'_>>,
+    error: &ProfileError,
+) -> Result<(), AllocError> {
+    match found {
+        Some(found) => put_found(text, alloc, family, &found, error),
+        None => text.push_str("linux.seccomp.syscalls: too many rules or entries\n"),
+    }
+}
+
+// Adds the line of the place of a fault.
+fn put_place(
+    text: &mut String,
+    alloc: Global,
+    family: Family,
+    value: &Value,
+    error: &ProfileError,
+) -> Result<(), AllocError> {
+    if let Some((first, second)) = overlap_in(error) {
+        return put_overlap(text, first, second);
+    }
+    let (number, _) = error.label();
+    let wanted = Wanted {
+        number,
+        family,
+        is_config: false,
+    };
+    put_if_found(text, alloc, family, find(wanted, value), error)
+}
+
+// Adds the line of the place of a fault, which is a line and a column where the text is no JSON.
+fn put_fault(
+    text: &mut String,
+    alloc: Global,
+    family: Family,
+    bundle: &[u8],
+    error: &ProfileError,
+) -> Result<(), AllocError> {
+    text.push_str("at ")?;
+    match Value::from_slice(alloc, bundle) {
+        Ok(value) => put_place(text, alloc, family, &value, error),
+        Err(error) => {
+            if error.is_memory() {
+                return Err(AllocError);
+            }
+            let fault = fault_of(alloc, bundle, &error);
+            writeln!(text, "{fault}")
+        }
+    }
+}
+
+/// An engine's configuration, its section, and the place at which that stands.
+#[derive(Clone, Copy)]
+pub struct Configuration<'a> {
+    pub root: &'a Value,
+    pub section: &'a Value,
+    pub top: &'static str,
+}
+
+/// The line of the place of a fault in an engine's configuration, of which a bundle was made that is refused.
+pub fn fault_in(
+    alloc: Global,
+    family: Family,
+    config: Configuration<'_>,
+    error: &ProfileError,
+) -> Result<String, AllocError> {
+    let mut text = String::new(alloc);
+    let (number, _) = error.label();
+    let wanted = Wanted {
+        number,
+        family,
+        is_config: true,
+    };
+    let found = find_in_config(wanted, config.root, config.top, config.section);
+    put_if_found(&mut text, alloc, family, found, error)?;
+    Ok(text)
+}
+
+// The line of the place of a fault.
+fn place_line(
+    alloc: Global,
+    family: Family,
+    bundle: &[u8],
+    error: &ProfileError,
+) -> Result<String, AllocError> {
+    let mut text = String::new(alloc);
+    put_fault(&mut text, alloc, family, bundle, error)?;
+    Ok(text)
+}
+
+// Adds why a bundle is refused, and the line of the place.
+fn refused_at(mut text: String, place: &str, error: ProfileError) -> Result<Told, AllocError>
+    ensures text { IfOk result (λ told. told.bytes.items
+        ≡ string_bytes text ++ (codes "refused profile " ++ (text_of error ++ line_feed ∷ place.now))) }
+    ensures done { IfOk result (λ told. told.done ≡ false) }
+{
+    write!(text, "refused profile {error}\n{place}")?;
+    Ok(Told {
+        bytes: text.into_bytes(),
+        done: false,
+    })
+}
+
+// Adds why and where a bundle is refused.
+fn refused(
+    text: String,
+    alloc: Global,
+    family: Family,
+    bundle: &[u8],
+    error: ProfileError,
+) -> Result<Told, AllocError>
+    ensures { IfOk result (λ told. (told.done ≡ false) × ((place : List ℕ) × (told.bytes.items
+        ≡ string_bytes text ++ (codes "refused profile " ++ (text_of error ++ line_feed ∷ place))))) }
+{
+    let place = place_line(alloc, family, bundle, &error)?;
+    refused_at(text, &place, error)
+}
+
+// What a bundle means, behind a text.
+fn meaning_of(mut text: String, profile: &Profile, all: &EntryRules) -> Result<Told, AllocError>
+    ensures { IfOk result (TellsText (string_bytes text ++ spec.bundle_text profile.now all.now.rules.items all.now.ends.items)) }
+{
+    put_bundle(&mut text, profile, all)?;
+    Ok(Told {
+        bytes: text.into_bytes(),
+        done: true,
+    })
+}
+
+// What a bundle means, by its profile, behind a text.
+fn meaning(
+    text: String,
+    alloc: Global,
+    native: Arch,
+    bundle: &[u8],
+    profile: &Profile,
+) -> Result<Told, AllocError>
+    ensures { string_bytes text ≡ [] → (t : Data) → IsText bundle.now t → Means t native profile.now
+        → IfOk result (spec.IsRead native bundle.now) }
+{
+    match rules_by_entry(alloc, bundle, native) {
+        Ok(all) => meaning_of(text, profile, &all),
+        Err(error) => refused_profile(alloc, error),
+    }
+}
+
+// Adds what a bundle means, or why and where it is refused.
+fn read_behind(
+    text: String,
+    alloc: Global,
+    native: Arch,
+    bundle: &[u8],
+) -> Result<Told, AllocError> {
+    match read_bundle(alloc, bundle, native) {
+        Ok(read) => meaning(text, alloc, native, bundle, &read.profile),
+        Err(ProfileError::OutOfMemory) => Err(AllocError),
+        Err(error) => refused(text, alloc, native.family(), bundle, error),
+    }
+}
+
+// What was told, and that it was not done.
+fn not_done(told: Told) -> Told
+    ensures { result.done ≡ false }
+{
+    Told {
+        bytes: told.bytes,
+        done: false,
+    }
+}
+
+// Tells what a bundle means, or why and where it is refused. An edition that begins with `1.` is told, and read as the first, but
+// it is refused.
+fn read_trimmed(alloc: Global, native: Arch, bundle: &[u8]) -> Result<Told, AllocError> {
+    let mut text = String::new(alloc);
+    match of_first_edition(alloc, &mut text, bundle)? {
+        Some(other) => {
+            let told = read_behind(text, alloc, native, &other)?;
+            Ok(not_done(told))
+        }
+        None => read_behind(text, alloc, native, bundle),
+    }
+}
+
+// The same of a bundle whose edition is refused: it was not done, whatever is told.
+fn read_as_first(alloc: Global, native: Arch, bundle: &[u8]) -> Result<Told, AllocError>
+    ensures { IfOk result (λ told. told.done ≡ false) }
+{
+    let told = read_trimmed(alloc, native, bundle)?;
+    Ok(not_done(told))
+}
+
+// Tells why and where a bundle is refused. One with another edition may be read as the first.
+fn not_read(
+    alloc: Global,
+    native: Arch,
+    bundle: &[u8],
+    error: ProfileError,
+) -> Result<Told, AllocError>
+    ensures { IfSome (fault_of error) (Breaks bundle.now native) → IfOk result (spec.IsRead native bundle.now) }
+{
+    match error {
+        ProfileError::OutOfMemory => Err(AllocError),
+        ProfileError::Version => read_as_first(alloc, native, bundle),
+        _ => refused(String::new(alloc), alloc, native.family(), bundle, error),
+    }
+}
+
+// The same of a bundle of which all members are read.
+fn read_whole(alloc: Global, native: Arch, bundle: &[u8]) -> Result<Told, AllocError>
+    ensures { IfOk result (spec.IsRead native bundle.now) }
+{
+    match read_bundle(alloc, bundle, native) {
+        Ok(read) => meaning(String::new(alloc), alloc, native, bundle, &read.profile),
+        Err(error) => not_read(alloc, native, bundle, error),
+    }
+}
+
+// How many bytes of a bundle are read as they are: of a longer one what is not read is left out first.
+const MOST_WHOLE: usize = 1 << 20;
+
+// What a bundle means, or where it is wrong.
+fn read_text(alloc: Global, native: Arch, bundle: &[u8]) -> Result<Told, AllocError>
+    ensures { IfOk result (λ told. length bundle.now ≤ 1048576 → spec.IsRead native bundle.now told) }
+{
+    if bundle.len() <= MOST_WHOLE {
+        return read_whole(alloc, native, bundle);
+    }
+    match without_unread(alloc, bundle, READ)? {
+        Some(Trimmed { text, .. }) => read_trimmed(alloc, native, &text),
+        None => read_trimmed(alloc, native, bundle),
+    }
+}
+
+/// Tells what a bundle, which is read for a native machine, means: its machines, what is said of calls that no entry
+/// matches, and a line for each entry. Of a bundle that is refused, why, and the place of the fault. Behind it stands a line for
+/// each member that is not read.
+pub fn read_out(alloc: Global, native: Arch, bundle: &[u8]) -> Result<Told, AllocError>
+    ensures { IfOk result (spec.IsReadOut native bundle.now) }
+{
+    let told = read_text(alloc, native, bundle)?;
+    with_unread(alloc, native, bundle, told)
+}

@@ -1,0 +1,58 @@
+//! What is told of a bundle, with what stands in it and is not read.
+ghost use Rattle.std.specs.Prelude.{◌≡◌, ◌&&◌, ◌++◌, ◌==◌, IfOk, length};
+ghost use Rattle.show.specs.Unread.{RefusesUnread, TellsUnread};
+
+use call_tables::Arch;
+use section::unread_of;
+use std::alloc::{AllocError, Global};
+use wording::Told;
+
+// What was told, with lines behind it.
+fn with_lines(told: Told, lines: &[u8]) -> Result<Told, AllocError>
+    ensures bytes { IfOk result (λ new. new.bytes.items ≡ told.bytes.items ++ lines.now) }
+    ensures done { IfOk result (λ new. new.done ≡ told.done) }
+{
+    let Told { mut bytes, done } = told;
+    bytes.extend_from_slice(lines)?;
+    Ok(Told { bytes, done })
+}
+
+// The same, which is done only if there are no lines.
+fn done_without_lines(told: Told, lines: &[u8]) -> Result<Told, AllocError>
+    ensures bytes { IfOk result (λ new. new.bytes.items ≡ told.bytes.items ++ lines.now) }
+    ensures done { IfOk result (λ new. new.done ≡ (told.done && (length lines.now == 0))) }
+{
+    let Told { mut bytes, done } = told;
+    bytes.extend_from_slice(lines)?;
+    Ok(Told {
+        bytes,
+        done: done && lines.is_empty(),
+    })
+}
+
+/// What was told of a bundle, and behind it a line for each member of its section that is not read, and for each key that stands
+/// twice.
+pub fn with_unread(
+    alloc: Global,
+    native: Arch,
+    bundle: &[u8],
+    told: Told,
+) -> Result<Told, AllocError>
+    ensures { IfOk result (TellsUnread native bundle.now told) }
+{
+    let lines = unread_of(alloc, native, bundle)?;
+    with_lines(told, &lines)
+}
+
+/// The same, which is done only if all is read.
+pub fn refusing_unread(
+    alloc: Global,
+    native: Arch,
+    bundle: &[u8],
+    told: Told,
+) -> Result<Told, AllocError>
+    ensures { IfOk result (RefusesUnread native bundle.now told) }
+{
+    let lines = unread_of(alloc, native, bundle)?;
+    done_without_lines(told, &lines)
+}

@@ -1,0 +1,19 @@
+-- The call that a line tells, of which it is known whether it is UTF-8.
+use Rattle.std.proofs.Common.{◌≡◌, ℕ, List, inl, inr, refl}
+use Rattle.std.specs.Prelude.{None}
+use Rattle.std.specs.Str.{IsUtf8, is_utf8}
+use Rattle.std.proofs.lemmas.Bool.{cases_Bool}
+use Rattle.std.proofs.lemmas.Str.{IsUtf8-from_is_utf8, is_utf8-from_IsUtf8}
+use Rattle.call_tables.specs.declared.arch.Arch.{Arch}
+use Rattle.strace_logs.specs.Line.{call_in, call_on}
+
+pub in_text : (native : Arch) (line : List ℕ) → IsUtf8 line → call_in native line ≡ call_on native line
+unfolding call_in
+in_text native line utf8 = rw (is_utf8-from_IsUtf8 line utf8) refl
+
+pub in_no_text : (native : Arch) (line : List ℕ) → (IsUtf8 line → ⊥) → call_in native line ≡ None
+unfolding call_in
+in_no_text native line bad = elim (cases_Bool (is_utf8 line)) [
+  | inl yes_it_is ↦ absurd (bad (IsUtf8-from_is_utf8 line yes_it_is))
+  | inr no_text ↦ rw no_text refl
+]

@@ -1,0 +1,11 @@
+mod MoreLaws
+mod InLaws
+mod Lines
+mod Taken
+mod Come
+mod GatheredLaws
+mod LoggedLaws
+mod RefusedLaws
+mod PlayedLaws
+mod WishLaws
+mod Spaces

@@ -1,0 +1,11 @@
+pub mod Lists
+pub mod Wish
+pub mod Given
+pub mod Taken
+pub mod Kept
+pub mod Learned
+pub mod Logged
+pub mod Unused
+pub mod Replayed
+pub mod inner
+pub mod Line

@@ -1,0 +1,138 @@
+-- What is told of logs that are played through a bundle.
+use Rattle.std.specs.Prelude.{ℕ, ◌≡◌, ◌↔◌, ◌⊎◌, ◌==◌, ◌&&◌, Bool, true, false, if◌then◌else◌, List, [], ◌∷◌, ◌++◌, Some, None, IfSome}
+use Rattle.std.specs.Prelude.{codes, count_by, length, map, position, unwrap_or}
+use Rattle.std.specs.Fmt.{decimal}
+use Rattle.std.specs.List.{All, flat_map, list_any}
+use Rattle.texts.specs.Lines.{line_feed}
+use Rattle.call_record.specs.Verdict.{Through, is_through}
+use Rattle.call_record.specs.Words.{word}
+use Rattle.call_tables.specs.declared.arch.Arch.{Arch}
+use Rattle.call_tables.specs.Arch.{machine_name, table_of, token_of}
+use Rattle.call_tables.specs.Table.{name_in}
+use Rattle.profile.specs.declared.rules.Rule.{Rule}
+use Rattle.profile.specs.Policy.{Policy, Says}
+use Rattle.profile.specs.Said.{said}
+use Rattle.wording.specs.declared.reason.Reason.{Reason}
+use Rattle.wording.specs.declared.reason.Reason.TheVariants.{Foreign, Entry, Default}
+use Rattle.wording.specs.declared.told.Told.{Told}
+use Rattle.wording.specs.Phrases.{action_text}
+use Rattle.wording.specs.Reason.{reason_of}
+use Rattle.wording.specs.Told.{RefusesBundle, TellsLine}
+use Rattle.strace_logs.specs.Line.{call_in, words_of_call}
+use Rattle.wording.specs.Lines.{lines_of}
+use Rattle.strace_logs.specs.Logged.{Logged, calls_in, first_none}
+use Rattle.strace_logs.specs.Unused.{unused_text}
+use Rattle.wording.specs.Understood.{IsReadAs}
+
+-- ---- which calls are refused
+
+-- a call that is not carried out: its machine and number, the verdict that is said of it, and why; and where a log shows it
+pub record Refused : Type 0 where
+  pub arch : Arch
+  pub nr : ℕ
+  pub verdict : ℕ
+  pub why : Reason
+  pub log : List ℕ
+  pub number : ℕ
+  pub line : List ℕ
+
+abbrev pub with_verdict : Logged → ℕ → Reason → Refused
+with_verdict call v why =
+    record { arch = call.arch; nr = word call.words 0; verdict = v; why = why; log = call.log; number = call.number; line = call.line }
+
+abbrev pub refused_of : Policy → List Rule → List ℕ → Logged → List Refused
+refused_of p rules ends call =
+    if is_through (said p call.words) then [] else with_verdict call (said p call.words) (reason_of p rules ends call.words) ∷ []
+
+abbrev pub refused_in : Policy → List Rule → List ℕ → List Logged → List Refused
+refused_in p rules ends calls = flat_map (refused_of p rules ends) calls
+
+-- ---- which of them are told together
+
+abbrev pub same_reason : Reason → Reason → Bool
+same_reason Foreign Foreign = true
+same_reason (Entry a) (Entry b) = a == b
+same_reason Default Default = true
+same_reason a b = false
+
+-- they are of one call, with one verdict, for one reason
+abbrev pub is_alike : Refused → Refused → Bool
+is_alike a b =
+    token_of a.arch == token_of b.arch && a.nr == b.nr && a.verdict == b.verdict && same_reason a.why b.why
+
+-- those that are like none before them
+abbrev pub firsts_behind : List Refused → List Refused → List Refused
+firsts_behind before [] = []
+firsts_behind before (x ∷ xs) = (if list_any (λ b. is_alike b x) before then [] else x ∷ []) ++ firsts_behind (before ++ x ∷ []) xs
+
+-- ---- how they are told
+
+abbrev pub why_text : Reason → List ℕ
+why_text Foreign = codes "foreign"
+why_text (Entry entry) = codes "entry " ++ decimal entry
+why_text Default = codes "default"
+
+abbrev pub name_of : Arch → ℕ → List ℕ
+name_of arch nr = unwrap_or (name_in (table_of arch) nr) (codes "a call")
+
+-- the call, the verdict and why
+abbrev pub call_text : Refused → List ℕ
+call_text x =
+    codes "refused " ++ name_of x.arch x.nr ++ codes ", number " ++ decimal x.nr ++ codes " of " ++ machine_name x.arch ++ codes ": "
+    ++ action_text x.verdict ++ codes ", "
+
+abbrev pub times_text : ℕ → List ℕ
+times_text n = codes ", " ++ decimal n ++ codes " times" ++ line_feed ∷ []
+
+-- the log, the number of the line, and the line
+abbrev pub place_text : Refused → List ℕ
+place_text x = codes "  " ++ x.log ++ codes ":" ++ decimal x.number ++ codes ": " ++ x.line ++ line_feed ∷ []
+
+-- the line of a call with its verdict and why, and how often; and the first line that shows it
+abbrev pub refusal_text : List Refused → Refused → List ℕ
+refusal_text all x =
+    call_text x ++ why_text x.why ++ times_text (count_by (is_alike x) all) ++ place_text x
+
+abbrev pub count_text : ℕ → ℕ → List ℕ
+count_text refused calls = decimal refused ++ codes " of " ++ decimal calls ++ codes " records refused" ++ line_feed ∷ []
+
+-- each refused call once, with how often it is; how many records are refused; and if it is asked for, what is not used
+abbrev pub replay_text : Policy → List Rule → List ℕ → Bool → List Logged → List ℕ
+replay_text p rules ends unused calls =
+    let refused = refused_in p rules ends calls in
+    flat_map (refusal_text refused) (firsts_behind [] refused) ++ count_text (length refused) (length calls)
+    ++ (if unused then unused_text rules ends calls else [])
+
+-- ---- what is answered
+
+-- what the profile says of a call's record carries the call out
+abbrev pub LetsThrough : Policy → List ℕ → Type 0
+LetsThrough p r = (v : ℕ) × Says p r v × Through v
+
+-- the call that the line tells, if it tells one, is carried out
+abbrev pub LineIsThrough : Arch → Policy → List ℕ → Type 0
+LineIsThrough native p line = IfSome (call_in native line) (λ call. LetsThrough p (words_of_call call))
+
+abbrev pub TextIsThrough : Arch → Policy → List ℕ → Type 0
+TextIsThrough native p text = All (LineIsThrough native p) (lines_of text)
+
+-- one of the files is no log, and the line that says so is told
+pub record RefusesLog (native : Arch) (logs : List (List ℕ × List ℕ)) (told : Told) : Type 0 where
+  pub name : List ℕ
+  pub first : first_none native logs ≡ Some name
+  pub tells : TellsLine (codes "refused log " ++ name ++ codes ": no line tells a call: it is no log of strace -f -n -e raw=all") told
+
+-- The logs were played through the profile that the bundle means. It is done just where each record is carried out.
+pub record Replays (native : Arch) (bundle : List ℕ) (logs : List (List ℕ × List ℕ)) (unused : Bool) (told : Told) : Type 0 where
+  pub policy : Policy
+  pub rules : List Rule
+  pub ends : List ℕ
+  pub read : IsReadAs native bundle policy rules ends
+  pub are_logs : first_none native logs ≡ None
+  pub tells : told.bytes.items ≡ replay_text policy rules ends unused (calls_in native logs)
+  pub done : (told.done ≡ true) ↔ All (TextIsThrough native policy) (map (λ log. log.1) logs)
+
+-- the bundle is refused, or a file that is no log; or the logs, each by its name and its text, were played through the bundle
+abbrev pub TellsReplayed : Arch → Bool → List ℕ → List (List ℕ × List ℕ) → Told → Type 0
+TellsReplayed native unused bundle logs told =
+    RefusesBundle native bundle told ⊎ (RefusesLog native logs told ⊎ Replays native bundle logs unused told)

@@ -1,0 +1,141 @@
+//! The text of a bundle that was made of logs.
+use crate::calls::{Calls, Kept};
+use crate::keeps::{Keep, WHOLE, low};
+use crate::lists::Otherwise;
+use crate::names::Names;
+use crate::strace::machines_run;
+use call_tables::Arch;
+use std::alloc::{AllocError, Global};
+use std::fmt::Write;
+
+// Whether logs show a call of a machine.
+fn is_shown(calls: &Calls, arch: Arch) -> bool {
+    calls.seen.iter().any(|call| call.arch == arch)
+}
+
+/// The machines of a bundle: the native one, and those whose calls logs show.
+pub(crate) fn machines_of(
+    alloc: Global,
+    native: Arch,
+    calls: &Calls,
+) -> Result<Vec<Arch>, AllocError> {
+    let mut machines = Vec::new(alloc);
+    for arch in machines_run(native) {
+        if *arch == native || is_shown(calls, *arch) {
+            machines.push(*arch)?;
+        }
+    }
+    Ok(machines)
+}
+
+// Adds texts in quotes, with commas between them.
+fn put_texts(text: &mut String, texts: &[&'static str]) -> Result<(), AllocError> {
+    let mut before = "";
+    for item in texts {
+        write!(text, "{before}\"{item}\"")?;
+        before = ", ";
+    }
+    Ok(())
+}
+
+// Adds the names of machines in quotes, with commas between them.
+fn put_machines(text: &mut String, machines: &[Arch]) -> Result<(), AllocError> {
+    let mut before = "";
+    for arch in machines {
+        let name = arch.scmp();
+        write!(text, "{before}\"{name}\"")?;
+        before = ", ";
+    }
+    Ok(())
+}
+
+// Adds the condition that an argument is a value in so many of its lowest bits.
+fn put_condition(text: &mut String, place: usize, bits: u32, value: u64) -> Result<(), AllocError> {
+    if bits >= WHOLE {
+        return write!(
+            text,
+            "{{\"index\": {place}, \"value\": {value}, \"op\": \"SCMP_CMP_EQ\"}}"
+        );
+    }
+    let mask = low(u64::MAX, bits);
+    write!(
+        text,
+        "{{\"index\": {place}, \"value\": {mask}, \"valueTwo\": {value}, \"op\": \"SCMP_CMP_MASKED_EQ\"}}"
+    )
+}
+
+// Adds the conditions that arguments have these values.
+fn put_conditions(text: &mut String, kept: &Kept) -> Result<(), AllocError> {
+    let mut before = "";
+    for place in 0..6usize {
+        if kept.bits[place] > 0 {
+            text.push_str(before)?;
+            put_condition(text, place, kept.bits[place], kept.values[place])?;
+            before = ", ";
+        }
+    }
+    Ok(())
+}
+
+// Adds the entry of a call with these values.
+fn put_kept(text: &mut String, keeps: &[Keep<'_>], kept: &Kept) -> Result<(), AllocError> {
+    let Some(keep) = keeps.get(kept.keep) else {
+        return Ok(());
+    };
+    let name = keep.name;
+    write!(
+        text,
+        ",\n        {{\"names\": [\"{name}\"], \"action\": \"SCMP_ACT_ALLOW\", \"args\": ["
+    )?;
+    put_conditions(text, kept)?;
+    text.push_str("]}")
+}
+
+// Adds the entry of the calls that fail with ENOSYS, if there are some.
+fn put_missing(text: &mut String, names: &Names) -> Result<(), AllocError> {
+    if names.missing.is_empty() {
+        return Ok(());
+    }
+    text.push_str(",\n        {\"names\": [")?;
+    put_texts(text, &names.missing)?;
+    text.push_str("], \"action\": \"SCMP_ACT_ERRNO\", \"errnoRet\": 38}")
+}
+
+// Adds the entries.
+fn put_entries(
+    text: &mut String,
+    keeps: &[Keep<'_>],
+    calls: &Calls,
+    names: &Names,
+) -> Result<(), AllocError> {
+    text.push_str("        {\"names\": [")?;
+    put_texts(text, &names.allowed)?;
+    text.push_str("], \"action\": \"SCMP_ACT_ALLOW\"}")?;
+    for kept in &calls.kept {
+        put_kept(text, keeps, kept)?;
+    }
+    put_missing(text, names)
+}
+
+/// The text of a bundle for these machines that allows these names and these calls.
+pub(crate) fn bundle_of(
+    alloc: Global,
+    machines: &[Arch],
+    keeps: &[Keep<'_>],
+    calls: &Calls,
+    names: &Names,
+    otherwise: Otherwise,
+) -> Result<String, AllocError> {
+    let mut text = String::new(alloc);
+    let default = otherwise.members();
+    write!(
+        text,
+        "{{\n  \"ociVersion\": \"1.0.2\",\n  \"linux\": {{\n    \"seccomp\": {{\n      {default},\n"
+    )?;
+    text.push_str("      \"architectures\": [")?;
+    put_machines(&mut text, machines)?;
+    text.push_str("],\n      \"syscalls\": [\n")?;
+    put_entries(&mut text, keeps, calls, names)?;
+    text.push_str("\n      ]\n    }\n  }\n}\n")?;
+    Ok(text)
+}

@@ -1,0 +1,152 @@
+//! A bundle from logs.
+ghost use Rattle.std.specs.Prelude.{◌≡◌, ℕ, List, IfOk, true, false, string_bytes};
+ghost use Rattle.call_tables.specs.declared.arch.Arch.{Arch};
+ghost use Rattle.strace_logs.specs.inner.Seen.{IsWeighed};
+ghost use Rattle.strace_logs.specs.Taken.{AreTaken, HaveShown, lines_in};
+ghost use Rattle.strace_logs.specs.Learned.{TellsLearned};
+
+use crate::bundle::{bundle_of, machines_of};
+use crate::calls::{Calls, MOST_KEPT, Seen};
+use crate::judging::{allows_seen, are_named, is_rest};
+use crate::lists::{Otherwise, Runtime};
+use crate::names::names_of;
+use crate::reading::Shown;
+use crate::telling::put_learned;
+use crate::wish::Wish;
+use call_tables::Arch;
+use profile::Profile;
+use profile_json::{ProfileError, read_bundle};
+use std::alloc::{AllocError, Global};
+use wording::{Told, refused_profile};
+
+/// What logs give: the bundle, or why there is none, and what is told of it, a line each.
+#[derive(Drop)]
+pub struct Learned {
+    pub told: Told,
+    pub lines: String,
+}
+
+// The line that tells why there is no bundle.
+fn refused(alloc: Global, what: &str, name: &str, why: &str) -> Result<Told, AllocError>
+    ensures { IfOk result (λ told. told.done ≡ false) }
+{
+    let line = format!(in alloc; "refused {what} {name}: {why}\n")?;
+    Ok(Told {
+        bytes: line.into_bytes(),
+        done: false,
+    })
+}
+
+// The bundle whose text means a profile, if the profile allows each call that was gathered, names no other calls than it may, and
+// has the default that was asked for.
+fn weighed(
+    alloc: Global,
+    profile: &Profile,
+    seen: &[Seen],
+    runtime: Option<Runtime>,
+    otherwise: Otherwise,
+    text: String,
+) -> Result<Told, AllocError>
+    ensures { (native : Arch) (texts : List (List ℕ)) → AreTaken native (lines_in texts) seen.now
+        → IfOk result (λ told. told.done ≡ true
+        → IsWeighed native profile.now texts runtime otherwise (string_bytes text) told.bytes.items) }
+{
+    if !allows_seen(profile, seen) {
+        return refused(alloc, "bundle", "", "it does not allow each record");
+    }
+    if !are_named(seen, runtime, profile.rules()) {
+        return refused(alloc, "bundle", "", "it names a call that no log shows");
+    }
+    if !is_rest(profile, otherwise) {
+        return refused(alloc, "bundle", "", "it has another default");
+    }
+    Ok(Told {
+        bytes: text.into_bytes(),
+        done: true,
+    })
+}
+
+// The bundle, once it was read and weighed, or why it is refused.
+fn judged(
+    alloc: Global,
+    native: Arch,
+    seen: &[Seen],
+    runtime: Option<Runtime>,
+    otherwise: Otherwise,
+    text: String,
+) -> Result<Told, AllocError>
+    ensures { (texts : List (List ℕ)) → AreTaken native (lines_in texts) seen.now
+        → IfOk result (TellsLearned native texts runtime otherwise) }
+{
+    match read_bundle(alloc, text.as_bytes(), native) {
+        Ok(read) => {
+            let told = weighed(alloc, &read.profile, seen, runtime, otherwise, text)?;
+            Ok(told)
+        }
+        Err(error) => refused_profile(alloc, error),
+    }
+}
+
+// What tells that a log has no record.
+fn no_record(alloc: Global, name: &str) -> Result<Told, AllocError>
+    ensures { IfOk result (λ told. told.done ≡ false) }
+{
+    let why = "no line tells a call: it is no log of strace -f -n -e raw=all";
+    refused(alloc, "log", name, why)
+}
+
+// The bundle of the calls that logs show, of which not too many values are kept, and what is told of it.
+fn learn_calls(
+    alloc: Global,
+    native: Arch,
+    calls: &Calls,
+    wish: &Wish<'_>,
+    lines: &mut String,
+) -> Result<Told, AllocError>
+    ensures { (texts : List (List ℕ)) → AreTaken native (lines_in texts) calls.now.seen.items
+        → IfOk result (TellsLearned native texts wish.now.runtime wish.now.otherwise) }
+{
+    if calls.kept.len() >= MOST_KEPT {
+        return refused_profile(alloc, ProfileError::TooMany);
+    }
+    let machines = machines_of(alloc, native, calls)?;
+    let runtime = wish.runtime;
+    let otherwise = wish.otherwise;
+    let names = names_of(alloc, &machines, &wish.keeps, calls, runtime, otherwise)?;
+    put_learned(lines, &machines, &wish.keeps, calls, &names, runtime)?;
+    let text = bundle_of(alloc, &machines, &wish.keeps, calls, &names, otherwise)?;
+    judged(alloc, native, &calls.seen, runtime, otherwise, text)
+}
+
+// The same, unless a log has no record.
+fn learn_shown(
+    alloc: Global,
+    native: Arch,
+    shown: &Shown,
+    wish: &Wish<'_>,
+    lines: &mut String,
+) -> Result<Told, AllocError>
+    ensures { (texts : List (List ℕ)) → HaveShown native texts shown.now
+        → IfOk result (TellsLearned native texts wish.now.runtime wish.now.otherwise) }
+{
+    if shown.is_lacking {
+        return no_record(alloc, &shown.lacking);
+    }
+    learn_calls(alloc, native, &shown.calls, wish, lines)
+}
+
+/// Makes a bundle, which is read for a native machine, that allows what logs show.
+pub fn learn(
+    alloc: Global,
+    native: Arch,
+    shown: &Shown,
+    wish: &Wish<'_>,
+) -> Result<Learned, AllocError>
+    ensures { (texts : List (List ℕ)) → HaveShown native texts shown.now
+        → IfOk result (λ learned. TellsLearned native texts wish.now.runtime wish.now.otherwise learned.told) }
+{
+    let mut lines = String::new(alloc);
+    shown.unread.put(&mut lines)?;
+    let told = learn_shown(alloc, native, shown, wish, &mut lines)?;
+    Ok(Learned { told, lines })
+}

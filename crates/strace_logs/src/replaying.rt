@@ -1,0 +1,152 @@
+//! Logs played through a bundle.
+ghost use Rattle.std.specs.Prelude.{◌≡◌, ◌⊎◌, ◌++◌, [], codes, if◌then◌else◌, IfErr, IfOk, IfSome, length, string_bytes};
+ghost use Rattle.std.specs.List.{flat_map};
+ghost use Rattle.wording.specs.Told.{TellsLine};
+ghost use Rattle.profile_json.specs.Breaks.{Breaks};
+ghost use Rattle.profile_json.specs.Fault.{fault_of};
+ghost use Rattle.strace_logs.specs.Logged.{parts_of};
+ghost use Rattle.strace_logs.specs.Replayed as spec;
+ghost use Rattle.strace_logs.specs.Unused.{unused_text};
+ghost use Rattle.strace_logs.specs.inner.Played.{IsPlayed, Plays};
+ghost use Rattle.strace_logs.specs.inner.Views.{all_logged, all_refused};
+
+use crate::logged::{LogCall, put_logs};
+use crate::logs::Log;
+use crate::refusals::{RefusedCall, put_refusals, refused_in};
+use crate::unused::put_unused;
+use call_tables::Arch;
+use profile::Profile;
+use profile_json::{EntryRules, ProfileError, read_bundle, rules_by_entry};
+use std::alloc::{AllocError, Global};
+use std::fmt::Write;
+use wording::{Told, refused_profile};
+
+// Adds how many records are refused.
+fn put_count(text: &mut String, refused: usize, records: usize) -> Result<(), AllocError>
+    ensures { IfOk result (λ _. string_bytes text.new ≡ string_bytes text.old ++ spec.count_text refused records) }
+{
+    writeln!(text, "{refused} of {records} records refused")
+}
+
+// Adds what is not used, if it is asked for.
+fn put_if_asked(
+    alloc: Global,
+    text: &mut String,
+    all: &EntryRules,
+    calls: &[LogCall<'_>],
+    tells_unused: bool,
+) -> Result<(), AllocError>
+    ensures { IfOk result (λ _. string_bytes text.new ≡ string_bytes text.old
+        ++ (if tells_unused then unused_text all.now.rules.items all.now.ends.items (all_logged calls.now) else [])) }
+{
+    if tells_unused {
+        return put_unused(alloc, text, all, calls);
+    }
+    Ok(())
+}
+
+// The text that tells of calls, of which these are refused.
+fn text_of(
+    alloc: Global,
+    all: &EntryRules,
+    calls: &[LogCall<'_>],
+    refused: &[RefusedCall<'_>],
+    tells_unused: bool,
+) -> Result<String, AllocError>
+    ensures { IfOk result (λ text. string_bytes text
+        ≡ flat_map (spec.refusal_text (all_refused refused.now)) (spec.firsts_behind [] (all_refused refused.now))
+        ++ spec.count_text (length refused.now) (length calls.now)
+        ++ (if tells_unused then unused_text all.now.rules.items all.now.ends.items (all_logged calls.now) else [])) }
+{
+    let mut text = String::new(alloc);
+    put_refusals(alloc, &mut text, refused)?;
+    put_count(&mut text, refused.len(), calls.len())?;
+    put_if_asked(alloc, &mut text, all, calls, tells_unused)?;
+    Ok(text)
+}
+
+// What is told of calls that are played through a profile, and the rules of its bundle's entries.
+fn told_of(
+    alloc: Global,
+    profile: &Profile,
+    all: &EntryRules,
+    calls: &[LogCall<'_>],
+    tells_unused: bool,
+) -> Result<Told, AllocError>
+    ensures { IfOk result (IsPlayed profile.now all.now.rules.items all.now.ends.items tells_unused (all_logged calls.now)) }
+{
+    let _rules = profile.rules();
+    let refused = refused_in(alloc, profile, all, calls)?;
+    let text = text_of(alloc, all, calls, &refused, tells_unused)?;
+    Ok(Told {
+        bytes: text.into_bytes(),
+        done: refused.len() == 0,
+    })
+}
+
+// The line that tells that a file is no log.
+fn no_log(alloc: Global, name: &str) -> Result<Told, AllocError>
+    ensures { IfOk result (TellsLine (codes "refused log " ++ name.now
+        ++ codes ": no line tells a call: it is no log of strace -f -n -e raw=all")) }
+{
+    let line = format!(in alloc;
+        "refused log {name}: no line tells a call: it is no log of strace -f -n -e raw=all\n"
+    )?;
+    Ok(Told {
+        bytes: line.into_bytes(),
+        done: false,
+    })
+}
+
+// Plays logs through a profile, and the rules of its bundle's entries.
+fn played(
+    alloc: Global,
+    native: Arch,
+    profile: &Profile,
+    all: &EntryRules,
+    logs: &[Log<'_>],
+    tells_unused: bool,
+) -> Result<Told, AllocError>
+    ensures { IfOk result (Plays native profile.now all.now.rules.items all.now.ends.items (parts_of logs.now) tells_unused) }
+{
+    let mut calls = Vec::new(alloc);
+    match put_logs(native, logs, &mut calls)? {
+        Some(name) => no_log(alloc, name),
+        None => told_of(alloc, profile, all, &calls, tells_unused),
+    }
+}
+
+// What is told of a bundle that was read twice, or why it was not.
+fn replayed(
+    alloc: Global,
+    native: Arch,
+    bundle: &[u8],
+    logs: &[Log<'_>],
+    tells_unused: bool,
+) -> Result<Told, ProfileError>
+    ensures told { IfOk result (λ told. (spec.RefusesLog native (parts_of logs.now) told)
+        ⊎ (spec.Replays native bundle.now (parts_of logs.now) tells_unused told)) }
+    ensures fault { IfErr result (λ e. IfSome (fault_of e) (Breaks bundle.now native)) }
+{
+    let read = read_bundle(alloc, bundle, native)?;
+    let all = rules_by_entry(alloc, bundle, native)?;
+    let told = played(alloc, native, &read.profile, &all, logs, tells_unused)?;
+    Ok(told)
+}
+
+/// Tells each call of logs that a bundle, which is read for a native machine, refuses: the verdict, why, how often, and the line
+/// that shows it first; and where it is asked for, what of the bundle no record matches. It is done just where nothing is refused.
+pub fn replay(
+    alloc: Global,
+    native: Arch,
+    bundle: &[u8],
+    logs: &[Log<'_>],
+    tells_unused: bool,
+) -> Result<Told, AllocError>
+    ensures told { IfOk result (spec.TellsReplayed native tells_unused bundle.now (parts_of logs.now)) }
+{
+    match replayed(alloc, native, bundle, logs, tells_unused) {
+        Ok(told) => Ok(told),
+        Err(error) => refused_profile(alloc, error),
+    }
+}

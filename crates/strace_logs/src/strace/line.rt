@@ -1,0 +1,68 @@
+//! Lines of a log.
+ghost use Rattle.std.specs.Prelude.{◌≡◌};
+ghost use Rattle.std.specs.Option.{option_map};
+ghost use Rattle.strace_logs.specs.Line as spec;
+
+use crate::strace::arguments::{arguments, given};
+use crate::strace::call::Call;
+use crate::strace::machines::machine_of;
+use crate::strace::numbers::number;
+use call_tables::Arch;
+use texts::split;
+
+// The call of a name and a number, by what stands behind `(`.
+#[tactic(auto, unfolding(crate::specs::Line::called))]
+fn called<'a>(native: Arch, name: &str, nr: u32, text: &'a str) -> Option<Call<'a>>
+    ensures { option_map (λ call. (call.arch, call.nr, call.args)) result ≡ spec.called native name.now nr text.now }
+{
+    let arch = machine_of(native, name, nr)?;
+    let given = given(text)?;
+    Some(Call {
+        arch,
+        nr,
+        args: arguments(given),
+        given,
+    })
+}
+
+// The call of a number, by what stands behind `]`.
+#[tactic(auto, unfolding(crate::specs::Line::numbered))]
+fn numbered(native: Arch, nr: u32, text: &str) -> Option<Call<'_>>
+    ensures { option_map (λ call. (call.arch, call.nr, call.args)) result ≡ spec.numbered native nr text.now }
+{
+    let (front, behind) = split(text, '(')?;
+    let name = front.strip_prefix(" ")?;
+    called(native, name, nr, behind)
+}
+
+/// The call that a line of a log tells, if it tells one.
+#[tactic(auto, unfolding(crate::specs::Line::call_on))]
+pub fn call_on(native: Arch, line: &str) -> Option<Call<'_>>
+    ensures { option_map (λ call. (call.arch, call.nr, call.args)) result ≡ spec.call_on native line.now }
+{
+    let (_, behind) = split(line, '[')?;
+    let (digits, text) = split(behind, ']')?;
+    let nr = number(digits)?;
+    numbered(native, nr, text)
+}
+
+/// The call that a line of a log tells, if it is text and tells one.
+pub fn call_in(native: Arch, line: &[u8]) -> Option<Call<'_>>
+    ensures { option_map (λ call. (call.arch, call.nr, call.args)) result ≡ spec.call_in native line.now }
+{
+    match str::from_utf8(line) {
+        Ok(text) => call_on(native, text),
+        Err(_) => None,
+    }
+}
+
+// What strace writes behind the number of a line that tells no call: its end, a signal, an exit.
+const REMARKS: &[&str] = &[" <... ", " --- ", " +++ "];
+
+/// Whether a line tells no call, but the end of one, a signal or an exit; or is empty.
+pub fn is_remark(line: &str) -> bool {
+    match split(line, ']') {
+        Some((_, text)) => REMARKS.iter().any(|mark| text.starts_with(*mark)),
+        None => line.is_empty(),
+    }
+}

@@ -1,0 +1,9 @@
+pub mod ReadLaws
+pub mod StrayLaws
+pub mod SplitLaws
+pub mod PartLaws
+pub mod ValueLaws
+pub mod PairLaws
+pub mod WaysLaws
+pub mod CallLaws
+pub mod SettledLaws

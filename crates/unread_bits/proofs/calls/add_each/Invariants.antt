@@ -1,0 +1,10 @@
+use Rattle.std.proofs.Common.{take}
+use Rattle.std.specs.List.{All}
+use Rattle.unread_bits.specs.Past.{AreTold, IsAnswered}
+use Rattle.unread_bits.proofs.calls.add_each.Given as goal
+
+abbrev pub invariant-loop-call : goal.invariant-loop-call
+invariant-loop-call l = record {
+  told : AreTold l.profile l.initial.all → AreTold l.profile l.all;
+  answered : All (λ call. IsAnswered l.profile l.all call.token call.nr) (take l.call-index l.list);
+}

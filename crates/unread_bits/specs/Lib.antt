@@ -1,0 +1,4 @@
+pub mod Parts
+pub mod Crowded
+pub mod Past
+pub mod inner

@@ -1,0 +1,15 @@
+pub mod NarrowToldLaws
+pub mod TurnLaws
+pub mod HasLaws
+pub mod CountLaws
+pub mod PatternLaws
+pub mod CutLaws
+pub mod WidthLaws
+pub mod RuleLaws
+pub mod PolicyLaws
+pub mod LowBitLaws
+pub mod StepLaws
+pub mod BuildLaws
+pub mod SuitLaws
+pub mod LowerLaws
+pub mod OwnerLaws

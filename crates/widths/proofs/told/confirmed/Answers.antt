@@ -1,0 +1,31 @@
+use Rattle.std.proofs.Common.{◌≡◌, ℕ, List, subst}
+use Rattle.std.specs.String.{string_bytes}
+use Rattle.profile.specs.declared.rules.Rule.{Rule}
+use Rattle.widths.specs.Alike.{IsNarrowed}
+use Rattle.widths.specs.Lowered.{with_rules}
+use Rattle.widths.specs.Narrow.{IsBundle}
+use Rattle.widths.proofs.NarrowToldLaws.{none_done}
+use Rattle.widths.proofs.told.confirmed.Goals as goal
+
+pub returns-in-Ok : goal.returns-in-Ok
+returns-in-Ok c =
+    let p = c.args.profile.now in
+    let q = c.in-Ok.read.profile in
+    let given : IsBundle c.args.native (string_bytes c.args.text) q =
+    subst (λ (bytes : List ℕ). IsBundle c.args.native bytes q) c.as_bytes.ensures.value c.in-Ok.ensures.ok in
+    λ bundle means done. record {
+      read = p;
+      means = means;
+      lowers = c.args.lowers.now;
+      are_lowered = c.requires.lowered;
+      narrowed = q;
+      says = rw c.into_bytes.ensures.value given;
+      is_narrowed = c.is_narrowed_of-done.ensures done;
+      fitting = λ fit.
+          subst (λ (rules : List Rule). IsNarrowed (with_rules p rules) q)
+          (c.fitting_stay.ensures c.args.lowers.now p.rules fit c.requires.lowered)
+          (c.is_narrowed_of-done.ensures done);
+    }
+
+pub returns-in-Err : goal.returns-in-Err
+returns-in-Err c = λ bundle means. none_done c.args.native bundle c.refused_profile.result c.refused_profile.ensures.done

@@ -1,0 +1,13 @@
+pub mod Narrow
+pub mod Patterns
+pub mod Parts
+pub mod Cutting
+pub mod Alike
+pub mod Counts
+pub mod Lowered
+pub mod Narrowed
+pub mod Reading
+pub mod Rows
+pub mod Tables
+pub mod Reads
+pub mod inner

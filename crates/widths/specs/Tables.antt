@@ -1,0 +1,54 @@
+-- The tables of each machine (Linux 6.18, SYSCALL_DEFINE and COMPAT_SYSCALL_DEFINE). x32 enters the calls of x86-64, but for
+-- those with entries of its own; AArch64 takes the arguments of clone in another order.
+use Rattle.std.specs.Prelude.{List, [], ◌∷◌, map}
+use Rattle.call_tables.specs.declared.arch.Arch.{Arch}
+use Rattle.call_tables.specs.declared.arch.Arch.TheVariants.{X86_64, Aarch64, LinuxX86_64, LinuxX86, LinuxX32, LinuxAarch64, LinuxArm}
+use Rattle.widths.specs.declared.linux_arguments.TheConstants.{FIRST_CALLS, SECOND_CALLS, THIRD_CALLS, FOURTH_CALLS}
+use Rattle.widths.specs.declared.linux_arguments.TheConstants.{X32_CALLS, X86_CALLS, AARCH64_CALLS}
+use Rattle.widths.specs.Rows.{Rows}
+
+unfoldable pub first_rows : Rows
+first_rows = map (λ e. (e.0.now, e.1)) FIRST_CALLS.now
+
+unfoldable pub second_rows : Rows
+second_rows = map (λ e. (e.0.now, e.1)) SECOND_CALLS.now
+
+unfoldable pub third_rows : Rows
+third_rows = map (λ e. (e.0.now, e.1)) THIRD_CALLS.now
+
+unfoldable pub fourth_rows : Rows
+fourth_rows = map (λ e. (e.0.now, e.1)) FOURTH_CALLS.now
+
+unfoldable pub x32_rows : Rows
+x32_rows = map (λ e. (e.0.now, e.1)) X32_CALLS.now
+
+unfoldable pub x86_rows : Rows
+x86_rows = map (λ e. (e.0.now, e.1)) X86_CALLS.now
+
+unfoldable pub aarch64_rows : Rows
+aarch64_rows = map (λ e. (e.0.now, e.1)) AARCH64_CALLS.now
+
+abbrev pub from_third : List Rows
+from_third = third_rows ∷ fourth_rows ∷ []
+
+abbrev pub from_second : List Rows
+from_second = second_rows ∷ from_third
+
+abbrev pub shared : List Rows
+shared = first_rows ∷ from_second
+
+abbrev pub on_x32 : List Rows
+on_x32 = x32_rows ∷ shared
+
+abbrev pub on_aarch64 : List Rows
+on_aarch64 = aarch64_rows ∷ shared
+
+-- the tables in which a machine's calls are looked up. ARM needs none, and x86 that of one call: all their arguments have 32 bits.
+abbrev pub tables_of : Arch → List Rows
+tables_of X86_64 = shared
+tables_of Aarch64 = on_aarch64
+tables_of LinuxX86_64 = shared
+tables_of LinuxX32 = on_x32
+tables_of LinuxX86 = x86_rows ∷ []
+tables_of LinuxAarch64 = on_aarch64
+tables_of LinuxArm = []

@@ -1,0 +1,223 @@
+//! What narrowing a bundle answers.
+ghost use Rattle.std.specs.Prelude.{◌≡◌, ◌++◌, ℕ, List, [], ◌∷◌, IfOk, IfSome, true, false};
+ghost use Rattle.widths.specs.Cutting.{Suits};
+ghost use Rattle.profile.specs.declared.rules.Rule.{Rule as TheRule};
+ghost use Rattle.widths.specs.Narrow as spec;
+ghost use Rattle.widths.specs.Lowered.{AreLowered};
+ghost use Rattle.widths.specs.Narrowed.{AreNarrowed};
+
+use crate::narrowing::{
+    CutError, Plan, WHOLE, add_narrowed, fitting_stay, is_narrowed_of, lowered_rule, suits,
+};
+use crate::plans::plan_of;
+use crate::written::{Draft, written};
+use call_tables::Arch;
+use profile::{Profile, Rule};
+use profile_json::{ProfileError, read_bundle};
+use std::alloc::{AllocError, Global};
+use wording::{Told, refused_profile};
+
+/// A bundle of a narrowed profile, or why there is none, and what was changed, a line each.
+#[derive(Drop)]
+pub struct Narrowing {
+    pub told: Told,
+    pub changes: String,
+}
+
+// What tells that there is no bundle, and nothing more on standard output.
+fn nothing(alloc: Global) -> Told
+    ensures { result.done ≡ false }
+{
+    Told {
+        bytes: Vec::new(alloc),
+        done: false,
+    }
+}
+
+// To how many bits a rule's arguments are cut.
+fn plan_of_rule(machines: &[Arch], rule: &Rule) -> Plan {
+    match rule.arch.name(rule.nr) {
+        Some(name) => plan_of(machines, name, rule.conds.as_slice()),
+        None => [WHOLE; 6],
+    }
+}
+
+// The lowered rules of a list, unless one has an order with a value that its argument cannot have.
+fn lowered_rules(
+    alloc: Global,
+    machines: &[Arch],
+    rules: &[Rule],
+) -> Result<Option<Vec<Rule>>, AllocError>
+    ensures { IfOk result (λ found. IfSome found (λ lowers. AreLowered lowers.items rules.now)) }
+{
+    let mut lowers = Vec::new(alloc);
+    for rule in rules {
+        let plan = plan_of_rule(machines, rule);
+        let Some(lower) = lowered_rule(rule, &plan)? else {
+            return Ok(None);
+        };
+        lowers.push(lower)?;
+    }
+    Ok(Some(lowers))
+}
+
+// Adds the narrowed rules of one rule, unless they are too many.
+fn add(
+    alloc: Global,
+    narrowed: &mut Vec<Rule>,
+    rule: &Rule,
+    plan: &Plan,
+) -> Result<bool, AllocError>
+    requires { Suits plan.now rule.now }
+    ensures { IfOk result (λ done. done ≡ true → (before : List TheRule) → AreNarrowed before narrowed.old.items
+        → AreNarrowed (before ++ rule.now ∷ []) narrowed.new.items) }
+{
+    match add_narrowed(alloc, narrowed, rule, plan) {
+        Ok(()) => Ok(true),
+        Err(CutError::TooMany) => Ok(false),
+        Err(CutError::OutOfMemory) => Err(AllocError),
+    }
+}
+
+// The narrowed rules of a list, unless they are too many, or machines of one call read unlike numbers of bits.
+fn narrowed_rules(
+    alloc: Global,
+    machines: &[Arch],
+    rules: &[Rule],
+) -> Result<Option<Vec<Rule>>, AllocError>
+    ensures { IfOk result (λ found. IfSome found (λ narrowed. AreNarrowed rules.now narrowed.items)) }
+{
+    let mut narrowed = Vec::new(alloc);
+    for rule in rules {
+        let plan = plan_of_rule(machines, rule);
+        if !suits(rule, &plan) {
+            return Ok(None);
+        }
+        let done = add(alloc, &mut narrowed, rule, &plan)?;
+        if !done {
+            return Ok(None);
+        }
+    }
+    Ok(Some(narrowed))
+}
+
+// The bundle, if it is read and is seen to mean the narrowed profile.
+fn confirmed(
+    alloc: Global,
+    native: Arch,
+    profile: &Profile,
+    lowers: &[Rule],
+    rules: &[Rule],
+    text: String,
+) -> Result<Told, AllocError>
+    requires lowered { AreLowered lowers.now profile.now.rules }
+    requires narrowed { AreNarrowed lowers.now rules.now }
+    ensures { (bundle : List ℕ) → spec.IsBundle native bundle profile.now → IfOk result (spec.IsTold native bundle) }
+{
+    fitting_stay();
+    match read_bundle(alloc, text.as_bytes(), native) {
+        Ok(read) => {
+            let done = is_narrowed_of(profile, lowers, &read.profile, rules);
+            Ok(Told {
+                bytes: text.into_bytes(),
+                done,
+            })
+        }
+        Err(error) => refused_profile(alloc, error),
+    }
+}
+
+// The same, unless the lowered rules cannot be narrowed.
+fn checked_lowered(
+    alloc: Global,
+    native: Arch,
+    profile: &Profile,
+    lowers: &[Rule],
+    text: String,
+) -> Result<Told, AllocError>
+    requires { AreLowered lowers.now profile.now.rules }
+    ensures { (bundle : List ℕ) → spec.IsBundle native bundle profile.now → IfOk result (spec.IsTold native bundle) }
+{
+    match narrowed_rules(alloc, profile.machines(), lowers)? {
+        Some(rules) => confirmed(alloc, native, profile, lowers, &rules, text),
+        None => Ok(nothing(alloc)),
+    }
+}
+
+// The same, unless the rules cannot be lowered.
+fn checked(alloc: Global, native: Arch, profile: &Profile, text: String) -> Result<Told, AllocError>
+    ensures { (bundle : List ℕ) → spec.IsBundle native bundle profile.now → IfOk result (spec.IsTold native bundle) }
+{
+    match lowered_rules(alloc, profile.machines(), profile.rules())? {
+        Some(lowers) => checked_lowered(alloc, native, profile, &lowers, text),
+        None => Ok(nothing(alloc)),
+    }
+}
+
+// The bundle that was written, if all of it could be.
+fn told_for(
+    alloc: Global,
+    native: Arch,
+    profile: &Profile,
+    text: String,
+    is_refused: bool,
+) -> Result<Told, AllocError>
+    ensures { (bundle : List ℕ) → spec.IsBundle native bundle profile.now → IfOk result (spec.IsTold native bundle) }
+{
+    if is_refused {
+        return Ok(nothing(alloc));
+    }
+    checked(alloc, native, profile, text)
+}
+
+// The same beside what was changed.
+fn told_of(
+    alloc: Global,
+    native: Arch,
+    profile: &Profile,
+    written: Draft,
+) -> Result<Narrowing, AllocError>
+    ensures { (bundle : List ℕ) → spec.IsBundle native bundle profile.now → IfOk result (spec.IsNarrow native bundle) }
+{
+    let Draft {
+        text,
+        changes,
+        is_refused,
+    } = written;
+    let told = told_for(alloc, native, profile, text, is_refused)?;
+    Ok(Narrowing { told, changes })
+}
+
+// The narrowed bundle of one that means a profile.
+fn narrowed_of(
+    alloc: Global,
+    native: Arch,
+    bundle: &[u8],
+    profile: &Profile,
+) -> Result<Narrowing, AllocError>
+    requires { spec.IsBundle native bundle.now profile.now }
+    ensures { IfOk result (spec.IsNarrow native bundle.now) }
+{
+    let written = written(alloc, native, bundle, profile.machines())?;
+    told_of(alloc, native, profile, written)
+}
+
+// What tells why a bundle is refused.
+fn refused(alloc: Global, error: ProfileError) -> Result<Narrowing, AllocError>
+    ensures { IfOk result (λ narrowing. narrowing.told.done ≡ false) }
+{
+    Ok(Narrowing {
+        told: refused_profile(alloc, error)?,
+        changes: String::new(alloc),
+    })
+}
+
+/// Makes a bundle, which is read for a native machine, of another: it means the narrowed profile.
+pub fn narrow(alloc: Global, native: Arch, bundle: &[u8]) -> Result<Narrowing, AllocError>
+    ensures { IfOk result (spec.IsNarrow native bundle.now) }
+{
+    match read_bundle(alloc, bundle, native) {
+        Ok(read) => narrowed_of(alloc, native, bundle, &read.profile),
+        Err(error) => refused(alloc, error),
+    }
+}

@@ -1,0 +1,88 @@
+//! The bundle of narrowed entries.
+use crate::entries::{Entries, put_member};
+use crate::text::Text;
+use call_tables::Arch;
+use profile_json::rules_by_entry;
+use serde_json::Value;
+use std::alloc::{AllocError, Global};
+
+/// A bundle, what was changed, a line each, and whether it cannot be written.
+#[derive(Drop)]
+pub(crate) struct Draft {
+    pub(crate) text: String,
+    pub(crate) changes: String,
+    pub(crate) is_refused: bool,
+}
+
+// Begins the bundle above its entries.
+fn put_head(text: &mut Text, config: &Value, section: &Value) {
+    text.begin("{\n  ");
+    put_member(text, config, "ociVersion");
+    text.put(",\n  \"linux\": {\n    \"seccomp\": ");
+    text.begin("{\n      ");
+    put_member(text, section, "defaultAction");
+    put_member(text, section, "defaultErrnoRet");
+    put_member(text, section, "architectures");
+    put_member(text, section, "flags");
+    put_member(text, section, "listenerPath");
+    put_member(text, section, "listenerMetadata");
+    text.separate(",\n      ");
+    text.begin("\"syscalls\": [");
+}
+
+// The entries of a section.
+fn entries_of(section: &Value) -> &[Value] {
+    match section.get("syscalls").and_then(Value::as_array) {
+        Some(list) => list.as_slice(),
+        None => &[],
+    }
+}
+
+// The section of a bundle.
+fn section_of(config: &Value) -> Option<&Value> {
+    config.get("linux")?.get("seccomp")
+}
+
+// Writes the bundle of a section.
+fn put_section(
+    entries: &mut Entries<'_>,
+    native: Arch,
+    bundle: &[u8],
+    config: &Value,
+    section: &Value,
+) -> Result<(), AllocError> {
+    put_head(&mut entries.text, config, section);
+    let Ok(all) = rules_by_entry(entries.alloc, bundle, native) else {
+        return Err(AllocError);
+    };
+    entries.put_all(entries_of(section), &all)?;
+    entries.text.end("\n      ]\n    }\n  }\n}\n");
+    Ok(())
+}
+
+/// The bundle of narrowed entries of one that was read, for these machines.
+pub(crate) fn written(
+    alloc: Global,
+    native: Arch,
+    bundle: &[u8],
+    machines: &[Arch],
+) -> Result<Draft, AllocError> {
+    let mut entries = Entries::new(alloc, machines);
+    let Ok(config) = Value::from_slice(alloc, bundle) else {
+        return Err(AllocError);
+    };
+    if let Some(section) = section_of(&config) {
+        put_section(&mut entries, native, bundle, &config, section)?;
+    }
+    let Entries {
+        text,
+        changes,
+        is_refused,
+        ..
+    } = entries;
+    Ok(Draft {
+        text: text.whole()?,
+        changes: changes.whole()?,
+        is_refused,
+    })
+}

@@ -1,0 +1,4 @@
+pub mod Deciding
+pub mod Texts
+pub mod Results
+pub mod Splits

@@ -1,0 +1,19 @@
+use Rattle.std.proofs.Common.{◌↔◌, IsTrue, List, subst}
+use Rattle.std.specs.List.{Any}
+use Rattle.call_record.specs.Record.{words}
+use Rattle.call_tables.specs.declared.arch.Arch.{Arch}
+use Rattle.call_tables.specs.Numbers.{HasCall}
+use Rattle.profile.specs.Policy.{IsNative}
+use Rattle.profile.specs.Said as said
+use Rattle.profile.proofs.SaidLaws.{Decides-is_native}
+use Rattle.wording.proofs.Deciding.{same_answer}
+use Rattle.wording.proofs.reason.is_native.Goals as goal
+
+pub returns : goal.returns
+returns c =
+    let p = c.args.profile.now in
+    let r = words c.args.call.now in
+    let its : IsTrue c.are_for.result ↔ IsNative p r =
+    subst (λ (machines : List Arch). IsTrue c.are_for.result ↔ Any (HasCall c.args.call.now.arch c.args.call.now.nr) machines)
+    c.machines.ensures.machines c.are_for.ensures in
+    same_answer c.are_for.result (said.is_native p r) (IsNative p r) its (Decides-is_native p r)

@@ -1,0 +1,153 @@
+/* What can be wrong with a rule, by itself and beside those that were added before it. */
+#include "filter.h"
+#include <errno.h>
+
+/* ---- whether one call matches two rules */
+
+static bool holds(const struct ccell_condition *condition, uint64_t argument) {
+    uint64_t value = condition->value;
+    switch (condition->operator_) {
+    case CCELL_NE: return argument != value;
+    case CCELL_LT: return argument < value;
+    case CCELL_LE: return argument <= value;
+    case CCELL_EQ: return argument == value;
+    case CCELL_GE: return argument >= value;
+    case CCELL_GT: return argument > value;
+    default: return (argument & value) == condition->datum;
+    }
+}
+
+static uint64_t mask_of(const struct ccell_condition *condition) {
+    return condition->operator_ == CCELL_MASKED_EQ ? condition->value : 0;
+}
+
+/* Whether a number up to the greatest meets both conditions. One number alone meets an equation. Any other condition that holds of a
+ * number holds of all below it with the same bits under the mask, or of all above it. So where some number meets both, so does the least
+ * or the greatest with the bits of both, or a number that they compare with, or the one after it. */
+static bool have_common(const struct ccell_condition *a, const struct ccell_condition *b, uint64_t greatest) {
+    uint64_t least = a->datum | b->datum, free = greatest & ~(mask_of(a) | mask_of(b));
+    uint64_t near[] = {least, least | free, a->value, a->value + 1, b->value, b->value + 1};
+    for (unsigned i = 0; i < sizeof near / sizeof *near; i++)
+        if (near[i] <= greatest && holds(a, near[i]) && holds(b, near[i])) return true;
+    return false;
+}
+
+/* Whether each condition of a rule can be met, together with that of the other rule on the same argument. */
+static bool can_be_met(const struct rule *rule, const struct rule *beside, uint64_t greatest) {
+    for (unsigned i = 0; i < rule->count; i++) {
+        const struct ccell_condition *own = &rule->conditions[i], *other = own;
+        for (unsigned k = 0; k < beside->count; k++)
+            if (beside->conditions[k].argument == own->argument) other = &beside->conditions[k];
+        if (!have_common(own, other, greatest)) return false;
+    }
+    return true;
+}
+
+static bool has_call(int machine, const struct rule *rule) {
+    uint32_t number;
+    return rule->call < 0 ? machine == NATIVE : call_has(machine, rule->call, &number);
+}
+
+static bool is_narrow(int machine) { return machine == X86 || machine == ARM; }
+
+/* The first machine on which one call matches both rules, which are for the same call; or -1. */
+static int machine_of_both(const struct rule *a, const struct rule *b) {
+    for (int machine = 0; machine < OURS; machine++) {
+        uint64_t greatest = is_narrow(machine) ? UINT32_MAX : UINT64_MAX;
+        if (a->machines & b->machines & 1u << machine && has_call(machine, a) && can_be_met(a, b, greatest) && can_be_met(b, a, greatest))
+            return machine;
+    }
+    return -1;
+}
+
+static int contradicts(const struct rule *rule, const struct rule *other, int machine) {
+    return refuse(-EEXIST, "%s contradicts %s on %s", rule_text(rule).is, rule_text(other).is, MACHINE[machine].name);
+}
+
+/* Whether a rule before this one has another action for a call that matches both. It is told by the rule that was asked for. */
+static int judge_overlaps(const struct filter *filter, const struct rule *rule, const struct rule *asked) {
+    for (size_t at = 0; (at = rule_before(filter, rule->call, rule->number, at));) {
+        const struct rule *old = &filter->rules[at - 1];
+        int machine = old->action == rule->action ? -1 : machine_of_both(old, rule);
+        if (machine >= 0) return contradicts(asked, old, machine);
+    }
+    return 0;
+}
+
+/* ---- what libseccomp adds on x86 */
+
+int way_of(const struct rule *rule, uint64_t *first) {
+    return rule->call >= 0 && rule->machines >> X86 & 1 ? other_way(rule->call, first) : -1;
+}
+
+/* Of ipc's number Linux reads 16 bits. A rule that is looser than the default is for the number alone, and any other for each that Linux
+ * takes for it. */
+struct rule rule_of_way(const struct filter *filter, const struct rule *rule, int way, uint64_t first) {
+    bool is_looser = (int32_t)(rule->action & ACTION) > (int32_t)(filter->now.attributes[DEFAULT_ACTION] & ACTION);
+    struct rule made = {.action = rule->action, .machines = 1u << X86, .call = way, .count = 1};
+    made.conditions[0] = is_looser || way != call_named("ipc") ? (struct ccell_condition){0, CCELL_EQ, first, 0}
+        : (struct ccell_condition){0, CCELL_MASKED_EQ, 0xffff, first};
+    return made;
+}
+
+static int contradicts_way(const struct rule *rule, const struct rule *whole) {
+    return refuse(-EEXIST, "%s: on x86 it contradicts %s, of which all get %s", rule_text(rule).is, call_name(whole->call),
+                  action_text(whole->action).is);
+}
+
+/* Whether the rule can also be for socketcall or ipc. Where a rule before it says what becomes of all of these, that one counts. Conditions
+ * speak of arguments that socketcall has behind a pointer: a rule that lets calls through is not added there, and any other refused. */
+static int judge_way(const struct filter *filter, const struct rule *rule) {
+    uint64_t first;
+    int way = way_of(rule, &first);
+    if (way < 0) return 0;
+    const struct rule *whole = whole_rule(filter, way, 0, X86);
+    if (whole) return settles || whole->action == rule->action ? 0 : contradicts_way(rule, whole);
+    if (!rule->count) {
+        struct rule other = rule_of_way(filter, rule, way, first);
+        return judge_overlaps(filter, &other, rule);
+    }
+    if (has_more_rights(rule->action, filter->now.attributes[DEFAULT_ACTION])) return 0;
+    return refuse(-EDOM, "%s: on x86 %s makes this call, too, and no filter sees its arguments", rule_text(rule).is, call_name(way));
+}
+
+/* Whether a rule for socketcall or ipc itself can stand beside what the rules before it say of these. */
+static int judge_calls_of_way(const struct filter *filter, const struct rule *rule) {
+    if (!(rule->machines >> X86 & 1) || (rule->call != call_named("socketcall") && rule->call != call_named("ipc"))) return 0;
+    if (!rule->count && settles) return 0;
+    for (size_t i = 0; i < filter->now.count; i++) {
+        const struct rule *old = &filter->rules[i];
+        uint64_t first;
+        if (old->action == rule->action || way_of(old, &first) != rule->call) continue;
+        if (!rule->count) return contradicts_way(old, rule);
+        struct rule other = rule_of_way(filter, old, rule->call, first);
+        if (!old->count && machine_of_both(&other, rule) >= 0) return contradicts(rule, old, X86);
+    }
+    return 0;
+}
+
+/* ---- all of it */
+
+/* x86 and ARM have arguments of 32 bits: with a larger number none is equal. -EDOM is libseccomp's "architecture specific failure"; runc
+ * would say of -EINVAL that an argument is compared twice. */
+static int judge_width(const struct rule *rule) {
+    for (int machine = 0; machine < OURS; machine++) {
+        if (!is_narrow(machine) || !(rule->machines >> machine & 1) || !has_call(machine, rule)) continue;
+        for (unsigned i = 0; i < rule->count; i++) {
+            uint64_t number = rule->conditions[i].value; /* under a mask the datum has no other bits */
+            if (number >> 32)
+                return refuse(-EDOM, "%s: argument %u of %s has 32 bits, and %#llx has more", rule_text(rule).is,
+                              rule->conditions[i].argument, MACHINE[machine].name, (unsigned long long)number);
+        }
+    }
+    return 0;
+}
+
+int judge_rule(const struct filter *filter, const struct rule *rule) {
+    bool settles_all = settles && !rule->count; /* of this call, on its machines */
+    int error = judge_width(rule);
+    if (!error && !settles_all) error = judge_overlaps(filter, rule, rule);
+    if (!error) error = judge_way(filter, rule);
+    if (!error) error = judge_calls_of_way(filter, rule);
+    return error;
+}
