@@ -1,4 +1,5 @@
 mod MoreLaws
+mod WidenLaws
 mod InLaws
 mod Lines
 mod Taken

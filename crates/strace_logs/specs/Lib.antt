@@ -4,6 +4,7 @@ pub mod Given
 pub mod Taken
 pub mod Kept
 pub mod Learned
+pub mod Widened
 pub mod Logged
 pub mod Unused
 pub mod Replayed

@@ -1,4 +1,5 @@
 pub mod Seen
+pub mod Wider
 pub mod Wished
 pub mod Refusals
 pub mod Views
