@@ -3,7 +3,7 @@ use Rattle.std.proofs.Common.{◌≡◌, ℕ, ◌+◌, ◌<◌, List, [], ◌∷
 use Rattle.std.proofs.lemmas.List.{get_or_default, length-map, length-take-le, map-append, take_more}
 use Rattle.std.specs.List.{zip}
 use Rattle.std.specs.Io.KnownBytes.{Consumes, IsAtEnd}
-use Rattle.std.specs.Prelude.{Bool, true, false, Option, None, Some, Result, Ok, Err, unwrap_or}
+use Rattle.std.specs.Prelude.{Bool, true, false, Option, None, Some, Result, Ok, Err}
 use Rattle.call_tables.specs.declared.arch.Arch.{Arch}
 use Rattle.wording.specs.declared.told.Told.{Told}
 use Rattle.texts.specs.Failures.{Failures}
@@ -14,16 +14,15 @@ use Rattle.strace_logs.specs.Logged.{parts_of}
 use Rattle.strace_logs.specs.Replayed.{TellsReplayed}
 use Rattle.strace_logs.specs.declared.logs.Log.{Log}
 use Rattle.strace_logs.specs.declared.lists.Otherwise.{Otherwise}
-use Rattle.strace_logs.specs.declared.lists.Otherwise.TheVariants.{Errno}
 use Rattle.strace_logs.specs.declared.lists.Runtime.{Runtime}
 use Rattle.strace_logs.specs.declared.reading.Shown.{Shown}
 use Rattle.strace_logs.specs.Taken.{HaveShown}
 use Rattle.cli.specs.declared.stops.Stop.{Stop}
 use Rattle.cli.specs.declared.stops.Stop.TheVariants.{Usage, CannotRead, Read, Write, OutOfMemory}
-use Rattle.cli.specs.Dispatch.{AnswersAsked, AnswersLearn, AnswersLogs, AnswersNamed, AnswersWidened, FirstUnread, HaveBytes, StopsAtLog, StopsAtProfile}
+use Rattle.cli.specs.Dispatch.{AnswersLearn, AnswersLogs, AnswersNamed, FirstUnread, HaveBytes, StopsAtLog}
 use Rattle.cli.specs.Files.{Folder, HasBundle, HasBytes, IsOpened}
 use Rattle.cli.specs.Told.{IsReplayed}
-use Rattle.cli.specs.inner.Telling.{IsAskedFrom, IsInForm, IsLearnedBundleOf, IsLearnedFrom, IsLearnedOf, IsToldOf, IsWidenedFrom, ShowEach, ShowsMore, StopsAtName, TellsOn, told_in}
+use Rattle.cli.specs.inner.Telling.{IsInForm, IsLearnedBundleOf, IsLearnedFrom, IsLearnedOf, IsToldOf, ShowEach, ShowsMore, StopsAtName, TellsOn, told_in}
 use Rattle.cli.proofs.DispatchLaws.{behind, now_of, read_on}
 use Rattle.cli.proofs.FormLaws.{stopped_in}
 use Rattle.cli.proofs.TurnLaws.{cut_at}
@@ -167,25 +166,6 @@ module _ {O : Type 0} (held : O → Option (List ℕ)) (failures : O → Failure
   answers_logs as_bundle logs runtime otherwise (Err stop) told at form h =
       let stopped = subst (λ t. TellsOn held failures old new t result) form h in inl (stop, at, stopped.0, stopped.1)
 
-  answers_widened : (as_bundle : Bool) (profile : List ℕ) (logs : List (List ℕ)) (runtime : Option Runtime) (made told : Result Told Stop)
-      → IsWidenedFrom folder native profile logs runtime made → IsInForm native as_bundle made told
-      → TellsOn held failures old new told result → AnswersWidened held failures folder old new native as_bundle profile logs runtime result
-  answers_widened as_bundle profile logs runtime (Ok made) (Ok told) is form h =
-      inr (is.0, is.2.0, told, is.1, is.2.1, record { made = made; is = is.2.2; written = form }, h)
-  answers_widened as_bundle profile logs runtime (Ok made) (Err stop) is form h =
-      inl (stop, subst (λ s. StopsAtProfile folder profile logs s) (sym form) (inr tt), h.0, h.1)
-  answers_widened as_bundle profile logs runtime (Err stop) told at form h =
-      let stopped = subst (λ t. TellsOn held failures old new t result) form h in inl (stop, at, stopped.0, stopped.1)
-
-  answers_asked : (as_bundle : Bool) (logs : List (List ℕ)) (runtime : Option Runtime) (otherwise : Option Otherwise)
-      (profile : Option (List ℕ)) (made told : Result Told Stop) → IsAskedFrom folder native logs runtime otherwise profile made
-      → IsInForm native as_bundle made told → TellsOn held failures old new told result
-      → AnswersAsked held failures folder old new native as_bundle logs runtime otherwise profile result
-  answers_asked as_bundle logs runtime otherwise None made told is form h =
-      answers_logs as_bundle logs runtime (unwrap_or otherwise Errno) made told is form h
-  answers_asked as_bundle logs runtime otherwise (Some profile) made told is form h =
-      answers_widened as_bundle profile logs runtime made told is form h
-
   answers_named : (as_bundle : Bool) (words : List (List ℕ)) (made told : Result Told Stop) → IsLearnedBundleOf folder native words made
       → IsInForm native as_bundle made told → TellsOn held failures old new told result
       → AnswersNamed held failures folder old new native as_bundle words result
@@ -193,8 +173,8 @@ module _ {O : Type 0} (held : O → Option (List ℕ)) (failures : O → Failure
       inl (subst (λ t. TellsOn held failures old new t result) (stopped_in native as_bundle made told Usage is form) h)
   answers_named as_bundle words made told (inr (inl is)) form h =
       inr (inl (subst (λ t. TellsOn held failures old new t result) (stopped_in native as_bundle made told OutOfMemory is form) h))
-  answers_named as_bundle words made told (inr (inr (logs, runtime, otherwise, profile, asks, is))) form h =
-      inr (inr (logs, runtime, otherwise, profile, asks, answers_asked as_bundle logs runtime otherwise profile made told is form h))
+  answers_named as_bundle words made told (inr (inr (logs, runtime, otherwise, asks, is))) form h =
+      inr (inr (logs, runtime, otherwise, asks, answers_logs as_bundle logs runtime otherwise made told is form h))
 
   pub answers_learned : (words : List (List ℕ)) (both : Result Both Stop) → IsLearnedOf folder native words (told_in both)
       → TellsOn held failures old new (told_in both) result → AnswersLearn held failures folder old new native words result

@@ -1,6 +1,6 @@
 -- THE PROGRAM. What it writes and the status that it ends with, of a command, of files, and of what is read on standard input.
 use Rattle.std.specs.Prelude.{ℕ, ◌≡◌, ◌⊎◌, Bool, true, false, List, [], ◌∷◌, ◌++◌, codes}
-use Rattle.std.specs.Prelude.{if◌then◌else◌, Option, Some, None, Result, Ok, Err, unwrap_or}
+use Rattle.std.specs.Prelude.{if◌then◌else◌, Option, Some, None, Result, Ok, Err}
 use Rattle.std.specs.Str.{bytes_eq}
 use Rattle.call_tables.specs.declared.arch.Arch.{Arch}
 use Rattle.command_line.specs.Lines.{Given}
@@ -24,10 +24,8 @@ use Rattle.compare.specs.Told.{IsCompared}
 use Rattle.compare.specs.FiltersTold.{IsTold}
 use Rattle.strace_logs.specs.Given.{GivesAll}
 use Rattle.strace_logs.specs.Learned.{TellsLearned}
-use Rattle.strace_logs.specs.Widened.{TellsWidened}
 use Rattle.strace_logs.specs.Wish.{AskFor}
 use Rattle.strace_logs.specs.declared.lists.Otherwise.{Otherwise}
-use Rattle.strace_logs.specs.declared.lists.Otherwise.TheVariants.{Errno}
 use Rattle.strace_logs.specs.declared.lists.Runtime.{Runtime}
 use Rattle.maker.specs.Answer.{WritesAnswer}
 use Rattle.maker.specs.Certified.{Certifies}
@@ -84,10 +82,6 @@ abbrev pub StopsAtLog : Option Folder → List (List ℕ) → Stop → Type 0
 StopsAtLog folder logs (CannotRead name) = BreaksAt folder logs name.now
 StopsAtLog folder logs OutOfMemory = Unit {0}
 StopsAtLog folder logs other = ⊥
-
--- it stops at a profile, or at one of the logs that widen it
-abbrev pub StopsAtProfile : Option Folder → List ℕ → List (List ℕ) → Stop → Type 0
-StopsAtProfile folder profile logs stop = StopsAt folder profile stop ⊎ StopsAtLog folder logs stop
 
 -- the exit status: 0 where the answer is yes or it was done, 1 where it was refused, 2 or 3 where the program stopped
 abbrev pub exit_status : Result Bool Stop → ℕ
@@ -231,33 +225,17 @@ module _ {O : Type 0} (held : O → Option (List ℕ)) (failures : O → Failure
       ⊎ ((texts : List (List ℕ)) × (told : Told) × HaveBytes folder logs texts
       × WritesMade native as_bundle (TellsLearned native texts runtime otherwise) told × WritesTold held failures old new told result)
 
-  -- What `learn .. from` writes of a profile and of logs: nothing where it stops at one; or what is told of their bytes, which is the
-  -- wider profile if it was done.
-  abbrev pub AnswersWidened : Arch → Bool → List ℕ → List (List ℕ) → Option Runtime → Result Bool Stop → Type 0
-  AnswersWidened native as_bundle profile logs runtime result =
-      ((stop : Stop) × StopsAtProfile folder profile logs stop × (result ≡ Err stop) × (new ≡ old))
-      ⊎ ((bundle : List ℕ) × (texts : List (List ℕ)) × (told : Told) × HasBundle native folder profile bundle × HaveBytes folder logs texts
-      × WritesMade native as_bundle (TellsWidened native bundle texts runtime) told × WritesTold held failures old new told result)
-
-  -- the profile that the words name is widened; where they name none, a new one is learned, and if no word is for the other calls they
-  -- fail with EPERM
-  abbrev pub AnswersAsked
-      : Arch → Bool → List (List ℕ) → Option Runtime → Option Otherwise → Option (List ℕ) → Result Bool Stop → Type 0
-  AnswersAsked native as_bundle logs runtime otherwise None result =
-      AnswersLogs native as_bundle logs runtime (unwrap_or otherwise Errno) result
-  AnswersAsked native as_bundle logs runtime otherwise (Some profile) result = AnswersWidened native as_bundle profile logs runtime result
-
   -- memory is refused before the words are read
   abbrev pub StopsForMemory : Result Bool Stop → Type 0
   StopsForMemory result = (result ≡ Err OutOfMemory) × (new ≡ old)
 
-  -- what is learned from the logs that the words name, for the runtime and with the default or the profile that they name
+  -- what is learned from the logs that the words name, for the runtime and with the default that they name
   abbrev pub AnswersNamed : Arch → Bool → List (List ℕ) → Result Bool Stop → Type 0
   AnswersNamed native as_bundle words result =
       StopsAtWords result
       ⊎ (StopsForMemory result
-      ⊎ ((logs : List (List ℕ)) × (runtime : Option Runtime) × (otherwise : Option Otherwise) × (profile : Option (List ℕ))
-      × AskFor words logs runtime otherwise profile × AnswersAsked native as_bundle logs runtime otherwise profile result))
+      ⊎ ((logs : List (List ℕ)) × (runtime : Option Runtime) × (otherwise : Otherwise) × AskFor words logs runtime otherwise
+      × AnswersLogs native as_bundle logs runtime otherwise result))
 
   -- the same in the form that the words ask for
   abbrev pub AnswersLearn : Arch → List (List ℕ) → Result Bool Stop → Type 0

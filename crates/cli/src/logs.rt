@@ -1,15 +1,13 @@
 //! What `ccell learn` and `ccell replay` do with logs.
-ghost use Rattle.std.specs.Prelude.{◌≡◌, ◌≢◌, ◌↔◌, [], ◌∷◌, ℕ, List, IfErr, IfOk, IsTrue, codes, length, map, unwrap_or};
+ghost use Rattle.std.specs.Prelude.{◌≡◌, ◌≢◌, ◌↔◌, [], ◌∷◌, ℕ, List, IfErr, IfOk, IsTrue, codes, length, map};
 ghost use Rattle.std.specs.List.{zip};
-ghost use Rattle.std.specs.Option.{option_map};
 ghost use Rattle.strace_logs.specs.Logged.{parts_of};
 ghost use Rattle.strace_logs.specs.Replayed.{TellsReplayed};
 ghost use Rattle.strace_logs.specs.Taken.{HaveShown};
-ghost use Rattle.strace_logs.specs.declared.lists.Otherwise.TheVariants.{Errno};
 ghost use Rattle.cli.specs.Dispatch.{StopsAtLog};
 ghost use Rattle.cli.specs.Files.{IsOpened};
 ghost use Rattle.cli.specs.Told.{IsReplayed, NamesLogs};
-ghost use Rattle.cli.specs.inner.Telling.{IsAskedFrom, IsLearnedBundleOf, IsLearnedFrom, IsLearnedOf, IsReplayOf, IsToldOf, IsWidenedBy, IsWidenedFrom, ShowEach, ShowsMore, StopsAtName, told_in};
+ghost use Rattle.cli.specs.inner.Telling.{IsLearnedBundleOf, IsLearnedFrom, IsLearnedOf, IsReplayOf, IsToldOf, ShowEach, ShowsMore, StopsAtName, told_in};
 
 use crate::adapting::Both;
 use crate::fault::FileFault;
@@ -18,7 +16,7 @@ use crate::forms::{form_in, in_form};
 use crate::stops::Stop;
 use call_tables::Arch;
 use std::alloc::{AllocError, Global};
-use strace_logs::{Keep, Learned, Log, LogFault, Shown, Wish, learn, replay, widen, wish_of};
+use strace_logs::{Keep, Learned, Log, LogFault, Shown, Wish, learn, replay, wish_of};
 use wording::Told;
 
 // Logs by their names and their bytes.
@@ -105,8 +103,8 @@ fn learned_of<'a, F: Files>(
     wish: &Wish<'a>,
     files: &mut F,
 ) -> Result<Both, Stop<'a>>
-    ensures { IsLearnedFrom (F.folder files.old) native (map (λ log. log.now) wish.now.logs.items) wish.now.runtime
-        (unwrap_or wish.now.otherwise Errno) (told_in result) }
+    ensures { IsLearnedFrom (F.folder files.old) native (map (λ log. log.now) wish.now.logs.items) wish.now.runtime wish.now.otherwise
+        (told_in result) }
 {
     match show_each(alloc, native, &wish.keeps, &wish.logs, files) {
         Ok(shown) => match learn(alloc, native, &shown, wish) {
@@ -120,61 +118,6 @@ fn learned_of<'a, F: Files>(
     }
 }
 
-// A bundle that the logs widen that words named.
-fn widened_by<'a, F: Files>(
-    alloc: Global,
-    native: Arch,
-    bundle: &[u8],
-    wish: &Wish<'a>,
-    files: &mut F,
-) -> Result<Both, Stop<'a>>
-    ensures { IsWidenedBy (F.folder files.old) native bundle.now (map (λ log. log.now) wish.now.logs.items) wish.now.runtime (told_in result) }
-{
-    match show_each(alloc, native, &wish.keeps, wish.logs.as_slice(), files) {
-        Ok(shown) => match widen(alloc, native, bundle, &shown, wish) {
-            Ok(Learned { told, lines }) => Ok(Both {
-                told,
-                changes: lines,
-            }),
-            Err(_no_memory) => Err(Stop::OutOfMemory),
-        },
-        Err(stop) => Err(stop),
-    }
-}
-
-// The same of a bundle by its name.
-fn widened_of<'a, F: Files>(
-    alloc: Global,
-    native: Arch,
-    profile: &'a str,
-    wish: &Wish<'a>,
-    files: &mut F,
-) -> Result<Both, Stop<'a>>
-    ensures { IsWidenedFrom (F.folder files.old) native profile.entry.now (map (λ log. log.now) wish.now.logs.items) wish.now.runtime
-        (told_in result) }
-{
-    match read_bundle(alloc, native, files, profile) {
-        Ok(bundle) => widened_by(alloc, native, &bundle, wish, files),
-        Err(stop) => Err(stop),
-    }
-}
-
-// A new bundle, or one that is widened.
-fn made_of<'a, F: Files>(
-    alloc: Global,
-    native: Arch,
-    wish: &Wish<'a>,
-    files: &mut F,
-) -> Result<Both, Stop<'a>>
-    ensures { IsAskedFrom (F.folder files.old) native (map (λ log. log.now) wish.now.logs.items) wish.now.runtime wish.now.otherwise
-        (option_map (λ p. p.now) wish.now.profile) (told_in result) }
-{
-    match wish.profile {
-        Some(profile) => widened_of(alloc, native, profile, wish, files),
-        None => learned_of(alloc, native, wish, files),
-    }
-}
-
 // Makes a bundle that allows what logs show, as words ask for it.
 fn bundle_of<'a, F: Files>(
     alloc: Global,
@@ -185,7 +128,7 @@ fn bundle_of<'a, F: Files>(
     ensures { IsLearnedBundleOf (F.folder files.old) native (map (λ w. w.now) words.entry.now) (told_in result) }
 {
     match wish_of(alloc, native, words) {
-        Ok(Some(wish)) => made_of(alloc, native, &wish, files),
+        Ok(Some(wish)) => learned_of(alloc, native, &wish, files),
         Ok(None) => Err(Stop::Usage),
         Err(_no_memory) => Err(Stop::OutOfMemory),
     }

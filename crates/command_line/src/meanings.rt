@@ -67,7 +67,7 @@ impl Meaning {
                 "how the bundle is made, in any order\n[possible values: widen, first, looser, stricter, like-libseccomp, narrow, log, for,\ndocker, podman, containerd, cap, kernel]"
             }
             Meaning::LearnedLog => {
-                "files that 'strace -f -n -e raw=all -o LOG' wrote, and what is asked\n[possible values: keep, for, crun, runc, bwrap, else, errno, enosys, log, kill, from]"
+                "files that 'strace -f -n -e raw=all -o LOG' wrote, and what is asked\n[possible values: keep, for, crun, runc, bwrap, else, errno, enosys, log, kill]"
             }
             Meaning::ReplayedLog => {
                 "files that 'strace -f -n -e raw=all -o LOG' wrote\n[possible values: unused]"

@@ -131,7 +131,6 @@ what was read, and what was added and why. Beside the logs may stand:
 keep CALL:ARG[,ARG]: compare these arguments with the values seen; once for each call.
 for crun|runc|bwrap|docker|podman: add the calls that a runtime makes behind the load.
 else errno|enosys|log|kill: the answer to all other calls.
-from PROFILE: widen this section or bundle, which answers all other calls as before.
 bundle, as the last word: write a bundle, a config.json with the section in it.
 Status 0, or 1 and a line that begins with 'refused'.
 

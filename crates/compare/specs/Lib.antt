@@ -12,7 +12,6 @@ pub mod inner
 pub mod Past
 pub mod LintTold
 pub mod Linted
-pub mod Hints
 pub mod Behind
 pub mod StubTold
 pub mod Stub

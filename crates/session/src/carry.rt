@@ -12,8 +12,8 @@ ghost use Rattle.session.specs.inner.Carried.{CarriesOut, Fits, Replies, id_in, 
 use crate::bundles::Bundles;
 use call_record::Record;
 use call_tables::Arch;
-use script::{Hex, MAX_LINE, Request};
 use lifecycle::{Command, Reply, Runtime};
+use script::{Hex, MAX_LINE, Request};
 use shared_table::SharedTable;
 use std::alloc::{AllocError, Global};
 

@@ -94,7 +94,7 @@ for_each seen rule is m within call covers is_record =
     subst (λ (a : Arch). Matches rule (words_of_call (a, call.1, call.2))) (sym covers.arch)
     (subst (λ (n : ℕ). Matches rule (words_of_call (seen.arch, n, call.2))) (sym covers.nr) there)
 
-pub says_rule : (p : Policy) (r : List ℕ) (rule : Rule) → IsProfile p → IsRecord r → IsNative p r → Contains p.rules rule → Matches rule r
+says_rule : (p : Policy) (r : List ℕ) (rule : Rule) → IsProfile p → IsRecord r → IsNative p r → Contains p.rules rule → Matches rule r
     → Says p r rule.word
 says_rule p r rule is is_record native among matches = record {
   foreign = λ alien. absurd (alien native);

@@ -1,5 +1,4 @@
 mod MoreLaws
-mod WidenLaws
 mod InLaws
 mod Lines
 mod Taken

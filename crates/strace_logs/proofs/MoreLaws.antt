@@ -19,7 +19,7 @@ use Rattle.strace_logs.specs.declared.lists.Runtime.{Runtime}
 use Rattle.strace_logs.specs.Learned.{IsMeant, IsNamed, NoMore}
 
 -- a rule of these matches the record, or none does
-pub some_or_none : (rules : List Rule) (r : List ℕ)
+some_or_none : (rules : List Rule) (r : List ℕ)
     → ((rule : Rule) × Contains rules rule × Matches rule r) ⊎ All (λ rule. ¬ Matches rule r) rules
 some_or_none [] r = inr (All-nil (λ rule. ¬ Matches rule r))
 some_or_none (x ∷ xs) r = elim (cases_Bool (said.matches x r)) [

@@ -5,7 +5,6 @@ use Rattle.std.specs.List.{All, Contains}
 use Rattle.std.proofs.lemmas.List.Elements.{All-nil, All-cons, All-push, All-weaker, All-contains, All-contains_itself}
 use Rattle.std.proofs.lemmas.List.Elements.{Contains-push, Contains-append_left, Contains-append_right, Contains-append_cases}
 use Rattle.call_record.specs.Verdict.{allow}
-use Rattle.call_record.specs.Words.{IsRecord}
 use Rattle.call_tables.specs.declared.arch.Arch.{Arch}
 use Rattle.profile.specs.Policy.{Policy, Says}
 use Rattle.strace_logs.specs.Line.{CallParts, call_in, words_of_call}
@@ -13,9 +12,7 @@ use Rattle.wording.specs.Lines.{lines_of}
 use Rattle.strace_logs.specs.declared.calls.Seen.{Seen}
 use Rattle.strace_logs.specs.Learned.{AllowsLine, AllowsText, IsSeen}
 use Rattle.strace_logs.specs.inner.Seen.{AreSeen}
-use Rattle.strace_logs.specs.inner.Wider.{TakesEach}
-use Rattle.strace_logs.specs.Widened.{AllowsOrKeeps, TakesText}
-use Rattle.strace_logs.specs.Taken.{AllowsEach, AreTaken, Covers, Grows, IsCovered, IsShown, LineIsCovered, lines_in}
+use Rattle.strace_logs.specs.Taken.{AllowsEach, AreTaken, Grows, IsCovered, IsShown, LineIsCovered, lines_in}
 use Rattle.strace_logs.proofs.Lines.{first_of, later_of}
 
 if_some_weaker : (P Q : CallParts → Type 0) → ((x : CallParts) → P x → Q x) → (o : Option CallParts) → IfSome o P → IfSome o Q
@@ -119,29 +116,12 @@ are_seen native texts seen t =
     (λ s h. let found = in_texts texts h.line h.among in
     record { text = found.0; among = found.1; line = h.line; in_text = found.2; args = h.args; told = h.told }) seen t.shown
 
-module _ (native : Arch) (Is : List ℕ → Type 0) where
-  abbrev pub of_each : Seen → Type 0
-  of_each seen = (call : CallParts) → Covers seen call → IsRecord (words_of_call call) → Is (words_of_call call)
-
-  abbrev pub of_line : List ℕ → Type 0
-  of_line line = IfSome (call_in native line) (λ (call : CallParts). Is (words_of_call call))
-
-  -- what is so of each call that was gathered is so of each record of the texts
-  pub texts_are : (texts : List (List ℕ)) (seen : List Seen) → AreTaken native (lines_in texts) seen → All of_each seen
-      → All (λ (text : List ℕ). All of_line (lines_of text)) texts
-  texts_are texts seen t all =
-      all_in_texts of_line texts
-      (All-weaker (LineIsCovered native seen) of_line
-      (λ line. if_some_weaker (IsCovered seen) (λ (call : CallParts). Is (words_of_call call))
-      (λ call c. All-contains of_each seen c.by all c.among call c.covers c.is_record) (call_in native line))
-      (lines_in texts) t.covered)
-
 -- a profile that allows each call that was gathered allows each record of the texts
 pub texts_allowed : (native : Arch) (p : Policy) (texts : List (List ℕ)) (seen : List Seen) → AreTaken native (lines_in texts) seen
     → All (AllowsEach p) seen → All (AllowsText native p) texts
-texts_allowed native p texts seen = texts_are native (λ r. Says p r allow) texts seen
-
--- a wider profile takes each record of the texts, if it takes each call that was gathered
-pub texts_taken : (native : Arch) (old new : Policy) (texts : List (List ℕ)) (seen : List Seen) → AreTaken native (lines_in texts) seen
-    → All (TakesEach old new) seen → All (TakesText old new native) texts
-texts_taken native old new texts seen = texts_are native (AllowsOrKeeps old new) texts seen
+texts_allowed native p texts seen t all =
+    all_in_texts (AllowsLine native p) texts
+    (All-weaker (LineIsCovered native seen) (AllowsLine native p)
+    (λ line. if_some_weaker (IsCovered seen) (λ (call : CallParts). Says p (words_of_call call) allow)
+    (λ call c. All-contains (AllowsEach p) seen c.by all c.among call c.covers c.is_record) (call_in native line))
+    (lines_in texts) t.covered)

@@ -4,7 +4,6 @@ pub mod Given
 pub mod Taken
 pub mod Kept
 pub mod Learned
-pub mod Widened
 pub mod Logged
 pub mod Unused
 pub mod Replayed

@@ -1,5 +1,5 @@
 -- What the words of `learn` ask for.
-use Rattle.std.specs.Prelude.{ℕ, ◌≡◌, ◌≢◌, ◌+◌, ◌||◌, Bool, false, codes, List, [], ◌∷◌, Option, Some, None, IfSome}
+use Rattle.std.specs.Prelude.{ℕ, ◌≡◌, ◌≢◌, ◌+◌, ◌||◌, Bool, false, codes, List, [], ◌∷◌, Option, Some, None, unwrap_or}
 use Rattle.std.specs.List.{All, filter_map, flat_map, last_or}
 use Rattle.std.specs.Str.{bytes_eq}
 use Rattle.call_record.specs.Verdict.{errno, kill_process, log}
@@ -30,14 +30,12 @@ rest_word Enosys = errno + 38
 rest_word Log = log
 rest_word Kill = kill_process
 
--- One thing that words ask for: a log by its name, a call of which values are kept, a runtime, what becomes of the other calls, a
--- profile by its name that is widened.
+-- One thing that words ask for: a log by its name, a call of which values are kept, a runtime, what becomes of the other calls.
 pub data Item : Type 0 where
   Reads : List ℕ → Item
   Keeps : List ℕ → Item
   For : Runtime → Item
   Else : Otherwise → Item
-  From : List ℕ → Item
 
 -- its words
 abbrev pub words_of : Item → List (List ℕ)
@@ -45,12 +43,10 @@ words_of (Reads log) = log ∷ []
 words_of (Keeps call) = codes "keep" ∷ call ∷ []
 words_of (For runtime) = codes "for" ∷ runtime_word runtime ∷ []
 words_of (Else otherwise) = codes "else" ∷ otherwise_word otherwise ∷ []
-words_of (From profile) = codes "from" ∷ profile ∷ []
 
 -- a word that another one stands behind
 abbrev pub is_mark : List ℕ → Bool
-is_mark word =
-    bytes_eq word (codes "keep") || bytes_eq word (codes "for") || bytes_eq word (codes "else") || bytes_eq word (codes "from")
+is_mark word = bytes_eq word (codes "keep") || bytes_eq word (codes "for") || bytes_eq word (codes "else")
 
 -- the things of each kind; any word but those is the name of a log
 abbrev pub log_of : Item → Option (List ℕ)
@@ -68,20 +64,13 @@ abbrev pub otherwise_of : Item → Option Otherwise
 otherwise_of (Else otherwise) = Some otherwise
 otherwise_of other = None
 
-abbrev pub profile_of : Item → Option (List ℕ)
-profile_of (From profile) = Some profile
-profile_of other = None
-
--- The words ask for things, one behind the other, and these are the logs, in order, one at least. The last runtime counts, the last
--- word for the other calls, and the last profile. Beside a profile no word is for the other calls, since the profile answers them.
-pub record AskFor (words logs : List (List ℕ)) (runtime : Option Runtime) (otherwise : Option Otherwise) (profile : Option (List ℕ))
-    : Type 0 where
+-- The words ask for things, one behind the other, and these are the logs, in order, one at least. The last runtime counts, and the last
+-- word for the other calls, which fail with EPERM where no word says more.
+pub record AskFor (words logs : List (List ℕ)) (runtime : Option Runtime) (otherwise : Otherwise) : Type 0 where
   pub items : List Item
   pub are : words ≡ flat_map words_of items
   pub names : filter_map log_of items ≡ logs
   pub plain : All IsPlain logs
   pub some : logs ≢ []
   pub last : last_or None (filter_map runtime_of items) ≡ runtime
-  pub rest : last_or None (filter_map otherwise_of items) ≡ otherwise
-  pub widened : last_or None (filter_map profile_of items) ≡ profile
-  pub alone : IfSome profile (λ _. otherwise ≡ None)
+  pub rest : unwrap_or (last_or None (filter_map otherwise_of items)) Errno ≡ otherwise

@@ -1,5 +1,4 @@
 pub mod Seen
-pub mod Wider
 pub mod Wished
 pub mod Refusals
 pub mod Views

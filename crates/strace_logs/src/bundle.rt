@@ -77,19 +77,15 @@ fn put_conditions(text: &mut String, kept: &Kept) -> Result<(), AllocError> {
     Ok(())
 }
 
-/// Adds the entry of a call with these values.
-pub(crate) fn put_kept(
-    text: &mut String,
-    keeps: &[Keep<'_>],
-    kept: &Kept,
-) -> Result<(), AllocError> {
+// Adds the entry of a call with these values.
+fn put_kept(text: &mut String, keeps: &[Keep<'_>], kept: &Kept) -> Result<(), AllocError> {
     let Some(keep) = keeps.get(kept.keep) else {
         return Ok(());
     };
     let name = keep.name;
     write!(
         text,
-        "{{\"names\": [\"{name}\"], \"action\": \"SCMP_ACT_ALLOW\", \"args\": ["
+        ",\n        {{\"names\": [\"{name}\"], \"action\": \"SCMP_ACT_ALLOW\", \"args\": ["
     )?;
     put_conditions(text, kept)?;
     text.push_str("]}")
@@ -105,13 +101,6 @@ fn put_missing(text: &mut String, names: &Names) -> Result<(), AllocError> {
     text.push_str("], \"action\": \"SCMP_ACT_ERRNO\", \"errnoRet\": 38}")
 }
 
-/// Adds the entry of names that are allowed whatever the arguments.
-pub(crate) fn put_allowed(text: &mut String, names: &[&'static str]) -> Result<(), AllocError> {
-    text.push_str("{\"names\": [")?;
-    put_texts(text, names)?;
-    text.push_str("], \"action\": \"SCMP_ACT_ALLOW\"}")
-}
-
 // Adds the entries.
 fn put_entries(
     text: &mut String,
@@ -119,10 +108,10 @@ fn put_entries(
     calls: &Calls,
     names: &Names,
 ) -> Result<(), AllocError> {
-    text.push_str("        ")?;
-    put_allowed(text, &names.allowed)?;
+    text.push_str("        {\"names\": [")?;
+    put_texts(text, &names.allowed)?;
+    text.push_str("], \"action\": \"SCMP_ACT_ALLOW\"}")?;
     for kept in &calls.kept {
-        text.push_str(",\n        ")?;
         put_kept(text, keeps, kept)?;
     }
     put_missing(text, names)

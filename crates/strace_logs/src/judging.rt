@@ -48,8 +48,8 @@ fn are_within(bits: &[u32; 6], conds: &[Cond]) -> bool
     true
 }
 
-/// Whether a rule is for each of these calls: for one of them, by no other arguments than those that they have in common.
-pub(crate) fn is_for_each(seen: &Seen, rule: &Rule) -> bool
+// Whether a rule is for each of these calls: for one of them, by no other arguments than those that they have in common.
+fn is_for_each(seen: &Seen, rule: &Rule) -> bool
     ensures { IsTrue result → IsForEach seen.now rule.now }
 {
     let record = seen.record();
@@ -115,8 +115,8 @@ fn has_name(call: &Seen, name: &str) -> bool
     }
 }
 
-/// Whether one of the calls that logs show has a name.
-pub(crate) fn is_of_record(calls: &[Seen], name: &str) -> bool
+// Whether one of the calls that logs show has a name.
+fn is_of_record(calls: &[Seen], name: &str) -> bool
     ensures { (native : Arch) (texts : List (List ℕ)) → AreSeen native texts calls.now → IsTrue result
         → IsOfRecord native texts name.now }
 {

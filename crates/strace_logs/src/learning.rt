@@ -1,7 +1,6 @@
 //! A bundle from logs.
-ghost use Rattle.std.specs.Prelude.{◌≡◌, ℕ, List, IfOk, true, false, string_bytes, unwrap_or};
+ghost use Rattle.std.specs.Prelude.{◌≡◌, ℕ, List, IfOk, true, false, string_bytes};
 ghost use Rattle.call_tables.specs.declared.arch.Arch.{Arch};
-ghost use Rattle.strace_logs.specs.declared.lists.Otherwise.TheVariants.{Errno};
 ghost use Rattle.strace_logs.specs.inner.Seen.{IsWeighed};
 ghost use Rattle.strace_logs.specs.Taken.{AreTaken, HaveShown, lines_in};
 ghost use Rattle.strace_logs.specs.Learned.{TellsLearned};
@@ -27,8 +26,8 @@ pub struct Learned {
     pub lines: String,
 }
 
-/// The line that tells why there is no bundle.
-pub(crate) fn refused(alloc: Global, what: &str, name: &str, why: &str) -> Result<Told, AllocError>
+// The line that tells why there is no bundle.
+fn refused(alloc: Global, what: &str, name: &str, why: &str) -> Result<Told, AllocError>
     ensures { IfOk result (λ told. told.done ≡ false) }
 {
     let line = format!(in alloc; "refused {what} {name}: {why}\n")?;
@@ -88,8 +87,8 @@ fn judged(
     }
 }
 
-/// What tells that a log has no record.
-pub(crate) fn no_record(alloc: Global, name: &str) -> Result<Told, AllocError>
+// What tells that a log has no record.
+fn no_record(alloc: Global, name: &str) -> Result<Told, AllocError>
     ensures { IfOk result (λ told. told.done ≡ false) }
 {
     let why = "no line tells a call: it is no log of strace -f -n -e raw=all";
@@ -105,14 +104,14 @@ fn learn_calls(
     lines: &mut String,
 ) -> Result<Told, AllocError>
     ensures { (texts : List (List ℕ)) → AreTaken native (lines_in texts) calls.now.seen.items
-        → IfOk result (TellsLearned native texts wish.now.runtime (unwrap_or wish.now.otherwise Errno)) }
+        → IfOk result (TellsLearned native texts wish.now.runtime wish.now.otherwise) }
 {
     if calls.kept.len() >= MOST_KEPT {
         return refused_profile(alloc, ProfileError::TooMany);
     }
     let machines = machines_of(alloc, native, calls)?;
     let runtime = wish.runtime;
-    let otherwise = wish.otherwise.unwrap_or(Otherwise::Errno);
+    let otherwise = wish.otherwise;
     let names = names_of(alloc, &machines, &wish.keeps, calls, runtime, otherwise)?;
     put_learned(lines, &machines, &wish.keeps, calls, &names, runtime)?;
     let text = bundle_of(alloc, &machines, &wish.keeps, calls, &names, otherwise)?;
@@ -128,7 +127,7 @@ fn learn_shown(
     lines: &mut String,
 ) -> Result<Told, AllocError>
     ensures { (texts : List (List ℕ)) → HaveShown native texts shown.now
-        → IfOk result (TellsLearned native texts wish.now.runtime (unwrap_or wish.now.otherwise Errno)) }
+        → IfOk result (TellsLearned native texts wish.now.runtime wish.now.otherwise) }
 {
     if shown.is_lacking {
         return no_record(alloc, &shown.lacking);
@@ -136,8 +135,7 @@ fn learn_shown(
     learn_calls(alloc, native, &shown.calls, wish, lines)
 }
 
-/// Makes a bundle, which is read for a native machine, that allows what logs show. Other calls fail with EPERM where no word is for
-/// them.
+/// Makes a bundle, which is read for a native machine, that allows what logs show.
 pub fn learn(
     alloc: Global,
     native: Arch,
@@ -145,7 +143,7 @@ pub fn learn(
     wish: &Wish<'_>,
 ) -> Result<Learned, AllocError>
     ensures { (texts : List (List ℕ)) → HaveShown native texts shown.now
-        → IfOk result (λ learned. TellsLearned native texts wish.now.runtime (unwrap_or wish.now.otherwise Errno) learned.told) }
+        → IfOk result (λ learned. TellsLearned native texts wish.now.runtime wish.now.otherwise learned.told) }
 {
     let mut lines = String::new(alloc);
     shown.unread.put(&mut lines)?;

@@ -309,8 +309,8 @@ fn is_of_podman(name: &str) -> bool
     is_of_catatonit(name)
 }
 
-/// Whether a runtime calls it itself, or the process 1 that an engine may put before the program.
-pub(crate) fn is_of_runtime(runtime: Option<Runtime>, name: &str) -> bool
+// Whether a runtime calls it itself, or the process 1 that an engine may put before the program.
+fn is_of_runtime(runtime: Option<Runtime>, name: &str) -> bool
     ensures { result ≡ spec.is_of_runtime runtime name.now }
 {
     match runtime {

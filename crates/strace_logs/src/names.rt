@@ -22,8 +22,8 @@ fn is_known(machines: &[Arch], name: &str) -> bool {
     machines.iter().any(|arch| arch.number(name).is_some())
 }
 
-/// Adds a name, unless it is there.
-pub(crate) fn put(names: &mut Vec<&'static str>, name: &'static str) -> Result<(), AllocError> {
+// Adds a name, unless it is there.
+fn put(names: &mut Vec<&'static str>, name: &'static str) -> Result<(), AllocError> {
     if !is_in(names, name) {
         names.push(name)?;
     }
@@ -43,8 +43,8 @@ fn shown(alloc: Global, calls: &Calls) -> Result<Vec<&'static str>, AllocError> 
     Ok(names)
 }
 
-/// Adds those names of a list that the machines have, that are not there and of whose calls no values are kept, and gives them.
-pub(crate) fn add(
+// Adds those names of a list that the machines have, that are not there and of whose calls no values are kept, and gives them.
+fn add(
     alloc: Global,
     machines: &[Arch],
     keeps: &[Keep<'_>],

@@ -2,11 +2,9 @@
 use crate::calls::Calls;
 use crate::deeds::put_deeds;
 use crate::keeps::Keep;
-use crate::lacking::{Lacking, is_called};
 use crate::lists::Runtime;
 use crate::names::Names;
 use call_tables::Arch;
-use profile::{Profile, Rule};
 use std::alloc::AllocError;
 use std::fmt::Write;
 
@@ -76,65 +74,14 @@ fn put_keeps(text: &mut String, keeps: &[Keep<'_>], calls: &Calls) -> Result<(),
     Ok(())
 }
 
-// How many of the added values are those of a call.
-fn added_count(lacking: &Lacking, keep: usize) -> usize {
-    lacking.kept.iter().filter(|kept| kept.keep == keep).count()
-}
-
-// Adds how many values are added of each call, if there are some.
-fn put_added(text: &mut String, keeps: &[Keep<'_>], lacking: &Lacking) -> Result<(), AllocError> {
-    for (place, keep) in keeps.iter().enumerate() {
-        let name = keep.name;
-        let count = added_count(lacking, place);
-        if count > 0 {
-            writeln!(text, "{name} is allowed with {count} more sets of values")?;
-        }
-    }
-    Ok(())
-}
-
-// Whether a rule compares arguments of calls of a name.
-fn compares(rule: &Rule, name: &str) -> bool {
-    !rule.conds.as_slice().is_empty() && is_called(rule, name)
-}
-
-// Adds the names of calls whose arguments the profile compared, and that are allowed whatever they are.
-fn put_loosened(text: &mut String, profile: &Profile, lacking: &Lacking) -> Result<(), AllocError> {
-    for name in &lacking.shown {
-        if profile.rules().iter().any(|rule| compares(rule, name)) {
-            writeln!(
-                text,
-                "{name} is now allowed whatever its arguments, which the profile compared: keep compares them again"
-            )?;
-        }
-    }
-    Ok(())
-}
-
-// Adds the names that entries no longer refuse, if there are some.
-fn put_freed(text: &mut String, freed: &[String]) -> Result<(), AllocError> {
-    if freed.is_empty() {
-        return Ok(());
-    }
-    text.push_str("no longer refused by an entry:")?;
-    for name in freed {
-        write!(text, " {name}")?;
-    }
-    text.push_str("\n")
-}
-
 // Adds the names that are added for what a runtime calls itself, if there are some.
-fn put_runtime(
-    text: &mut String,
-    runtime: Runtime,
-    names: &[&'static str],
-) -> Result<(), AllocError> {
-    if names.is_empty() {
+fn put_runtime(text: &mut String, runtime: Runtime, names: &Names) -> Result<(), AllocError> {
+    if names.of_runtime.is_empty() {
         return Ok(());
     }
     let name = runtime.name();
     write!(text, "{name} itself calls behind the load:")?;
-    put_names(text, "", names)
+    put_names(text, "", &names.of_runtime)
 }
 
 /// Adds what is in a bundle that was made of logs, and why.
@@ -149,7 +96,7 @@ pub(crate) fn put_learned(
     put_count(text, machines, calls)?;
     put_keeps(text, keeps, calls)?;
     if let Some(runtime) = runtime {
-        put_runtime(text, runtime, &names.of_runtime)?;
+        put_runtime(text, runtime, names)?;
     }
     put_names(text, "process 1 of --init calls:", &names.of_first)?;
     put_names(
@@ -163,30 +110,5 @@ pub(crate) fn put_learned(
         "fails with ENOSYS, so that programs fall back:",
         &names.missing,
     )?;
-    put_deeds(text, &calls.deeds)
-}
-
-/// Adds what logs add to a profile, and why.
-pub(crate) fn put_widened(
-    text: &mut String,
-    profile: &Profile,
-    keeps: &[Keep<'_>],
-    calls: &Calls,
-    lacking: &Lacking,
-    freed: &[String],
-    runtime: Option<Runtime>,
-) -> Result<(), AllocError> {
-    put_count(text, profile.machines(), calls)?;
-    put_names(text, "added, since the logs show them:", &lacking.shown)?;
-    put_added(text, keeps, lacking)?;
-    put_loosened(text, profile, lacking)?;
-    put_freed(text, freed)?;
-    if let Some(runtime) = runtime {
-        put_runtime(text, runtime, &lacking.of_runtime)?;
-    }
-    put_names(text, "process 1 of --init calls:", &lacking.of_first)?;
-    if lacking.is_empty() {
-        text.push_str("nothing is added: the profile lets through all that the logs show\n")?;
-    }
     put_deeds(text, &calls.deeds)
 }

@@ -1,6 +1,5 @@
 //! What the words of a command ask for.
-ghost use Rattle.std.specs.Prelude.{◌≡◌, ◌++◌, ◌∷◌, [], IfOk, IfSome, IsTrue, List, None, ℕ, codes, map, true};
-ghost use Rattle.std.specs.Option.{option_map};
+ghost use Rattle.std.specs.Prelude.{◌≡◌, ◌++◌, ◌∷◌, [], IfOk, IfSome, List, ℕ, codes, map, true};
 ghost use Rattle.strace_logs.specs.Wish as spec;
 ghost use Rattle.strace_logs.specs.Wish.{AskFor};
 ghost use Rattle.strace_logs.specs.inner.Wished.{Asks, AsksTo, IsMark};
@@ -10,15 +9,14 @@ use crate::lists::{Otherwise, Runtime};
 use call_tables::Arch;
 use std::alloc::{AllocError, Global};
 
-/// The files of logs, the calls of which values are kept, the runtime whose own calls are added, what becomes of the calls that no
-/// log shows, where a word says so, and the file of the profile that is widened, if there is one: it answers all other calls then.
+/// The files of logs, the calls of which values are kept, the runtime whose own calls are added, and what becomes of the calls
+/// that no log shows.
 #[derive(Drop)]
 pub struct Wish<'a> {
     pub logs: Vec<&'a str>,
     pub keeps: Vec<Keep<'a>>,
     pub runtime: Option<Runtime>,
-    pub otherwise: Option<Otherwise>,
-    pub profile: Option<&'a str>,
+    pub otherwise: Otherwise,
 }
 
 // Adds a call of which values are kept, unless the word asks for none or the call has some.
@@ -34,32 +32,6 @@ fn put_keep<'a>(native: Arch, wish: &mut Wish<'a>, word: &'a str) -> Result<bool
     }
     wish.keeps.push(keep)?;
     Ok(true)
-}
-
-// Adds the profile that is widened, unless there is one.
-fn put_profile<'a>(wish: &mut Wish<'a>, word: &'a str) -> bool
-    ensures { (before : List (List ℕ)) → Asks before wish.old
-        → IsTrue result → Asks (before ++ codes "from" ∷ word.entry.now ∷ []) wish.new }
-{
-    if wish.profile.is_some() {
-        return false;
-    }
-    wish.profile = Some(word);
-    true
-}
-
-// Adds what becomes of the calls that no log shows: false where the word does not say it.
-fn put_otherwise(wish: &mut Wish<'_>, word: &str) -> bool
-    ensures { (before : List (List ℕ)) → Asks before wish.old
-        → IsTrue result → Asks (before ++ codes "else" ∷ word.now ∷ []) wish.new }
-{
-    match Otherwise::called(word) {
-        Some(otherwise) => {
-            wish.otherwise = Some(otherwise);
-            true
-        }
-        None => false,
-    }
 }
 
 // Adds what a word and the one behind it ask for: false where they ask for nothing.
@@ -80,17 +52,20 @@ fn put_pair<'a>(
         wish.runtime = Runtime::called(value);
         return Ok(wish.runtime.is_some());
     }
-    if word == "from" {
-        return Ok(put_profile(wish, value));
+    match Otherwise::called(value) {
+        Some(otherwise) => {
+            wish.otherwise = otherwise;
+            Ok(true)
+        }
+        None => Ok(false),
     }
-    Ok(put_otherwise(wish, value))
 }
 
 // Whether a word asks for something by the word behind it.
 fn is_mark(word: &str) -> bool
     ensures { result ≡ spec.is_mark word.now }
 {
-    word == "keep" || word == "for" || word == "else" || word == "from"
+    word == "keep" || word == "for" || word == "else"
 }
 
 // Adds what a word asks for, by the mark before it, and gives the mark that it is: none at all where it asks for nothing.
@@ -130,39 +105,24 @@ fn put_words<'a>(native: Arch, wish: &mut Wish<'a>, words: &[&'a str]) -> Result
     Ok(mark.is_none())
 }
 
-// Whether no word is for the calls that a profile answers.
-fn is_clear(wish: &Wish<'_>) -> bool
-    ensures { IsTrue result → IfSome wish.now.profile (λ _. wish.now.otherwise ≡ None) }
-{
-    match wish.profile {
-        Some(_) => wish.otherwise.is_none(),
-        None => true,
-    }
-}
-
-/// What words ask for: files of logs, one at least, and among them `keep CALL:ARG[,ARG]`, `for RUNTIME`, and either
-/// `else errno|enosys|log|kill` or `from PROFILE`.
+/// What words ask for: files of logs, one at least, and among them `keep CALL:ARG[,ARG]`, `for crun|runc|bwrap` and
+/// `else errno|enosys|log|kill`.
 pub fn wish_of<'a>(
     alloc: Global,
     native: Arch,
     words: &[&'a str],
 ) -> Result<Option<Wish<'a>>, AllocError>
     ensures { IfOk result (λ asked. IfSome asked (λ wish.
-        AskFor (map (λ w. w.now) words.now) (map (λ log. log.now) wish.logs.items) wish.runtime wish.otherwise
-        (option_map (λ p. p.now) wish.profile))) }
+        AskFor (map (λ w. w.now) words.now) (map (λ log. log.now) wish.logs.items) wish.runtime wish.otherwise)) }
 {
     let mut wish = Wish {
         logs: Vec::new(alloc),
         keeps: Vec::new(alloc),
         runtime: None,
-        otherwise: None,
-        profile: None,
+        otherwise: Otherwise::Errno,
     };
     let is_read = put_words(native, &mut wish, words)?;
     if !is_read || wish.logs.is_empty() {
-        return Ok(None);
-    }
-    if !is_clear(&wish) {
         return Ok(None);
     }
     Ok(Some(wish))

@@ -1,5 +1,5 @@
 -- What functions tell of files, before it is written.
-use Rattle.std.specs.Prelude.{ℕ, ◌≡◌, ◌⊎◌, List, [], ◌∷◌, ◌++◌, Bool, Option, None, Some, Result, Ok, Err, unwrap_or}
+use Rattle.std.specs.Prelude.{ℕ, ◌≡◌, ◌⊎◌, List, [], ◌∷◌, ◌++◌, Bool, Option, Result, Ok, Err}
 use Rattle.texts.specs.Failures.{Failures}
 use Rattle.wording.specs.declared.told.Told.{Told}
 use Rattle.cli.specs.declared.stops.Stop.{Stop}
@@ -9,15 +9,13 @@ use Rattle.cli.specs.declared.stops.Stop.TheVariants.{CannotRead, OutOfMemory, U
 use Rattle.explain.specs.Audit.{IsAudited}
 use Rattle.strace_logs.specs.Given.{GivesAll}
 use Rattle.strace_logs.specs.Learned.{TellsLearned}
-use Rattle.strace_logs.specs.Widened.{TellsWidened}
 use Rattle.strace_logs.specs.Wish.{AskFor}
 use Rattle.strace_logs.specs.declared.lists.Otherwise.{Otherwise}
-use Rattle.strace_logs.specs.declared.lists.Otherwise.TheVariants.{Errno}
 use Rattle.strace_logs.specs.declared.lists.Runtime.{Runtime}
 use Rattle.strace_logs.specs.declared.reading.Shown.{Shown}
 use Rattle.strace_logs.specs.Taken.{HaveShown}
-use Rattle.cli.specs.Dispatch.{FirstUnread, HaveBytes, StopsAtLog, StopsAtProfile, WritesTold}
-use Rattle.cli.specs.Files.{Folder, HasBundle, HasBytes}
+use Rattle.cli.specs.Dispatch.{FirstUnread, HaveBytes, StopsAtLog, WritesTold}
+use Rattle.cli.specs.Files.{Folder, HasBytes}
 use Rattle.cli.specs.Input.{StopsInput}
 use Rattle.cli.specs.Adapted.{AskNothing, IsMadeAs}
 use Rattle.cli.specs.Told.{IsManual, IsNoCommand, IsReplayed, NamesLogs, OfArguments, OfBundle, of_none, of_one}
@@ -97,31 +95,13 @@ IsLearnedFrom folder native logs runtime otherwise (Ok told) =
     (texts : List (List ℕ)) × HaveBytes folder logs texts × TellsLearned native texts runtime otherwise told
 IsLearnedFrom folder native logs runtime otherwise (Err stop) = StopsAtLog folder logs stop
 
--- what widens a bundle by logs, unless the program stops at one
-abbrev pub IsWidenedBy : Option Folder → Arch → List ℕ → List (List ℕ) → Option Runtime → Result Told Stop → Type 0
-IsWidenedBy folder native bundle logs runtime (Ok told) =
-    (texts : List (List ℕ)) × HaveBytes folder logs texts × TellsWidened native bundle texts runtime told
-IsWidenedBy folder native bundle logs runtime (Err stop) = StopsAtLog folder logs stop
-
--- the same of the bundle of a file, which is read first
-abbrev pub IsWidenedFrom : Option Folder → Arch → List ℕ → List (List ℕ) → Option Runtime → Result Told Stop → Type 0
-IsWidenedFrom folder native profile logs runtime (Ok told) =
-    (bundle : List ℕ) × HasBundle native folder profile bundle × IsWidenedBy folder native bundle logs runtime (Ok told)
-IsWidenedFrom folder native profile logs runtime (Err stop) = StopsAtProfile folder profile logs stop
-
--- a profile is widened if there is one; and else what is learned is new, where other calls fail with EPERM if no word is for them
-abbrev pub IsAskedFrom
-    : Option Folder → Arch → List (List ℕ) → Option Runtime → Option Otherwise → Option (List ℕ) → Result Told Stop → Type 0
-IsAskedFrom folder native logs runtime otherwise None told = IsLearnedFrom folder native logs runtime (unwrap_or otherwise Errno) told
-IsAskedFrom folder native logs runtime otherwise (Some profile) told = IsWidenedFrom folder native profile logs runtime told
-
 -- the same of the logs that the words name, unless it stops before
 abbrev pub IsLearnedBundleOf : Option Folder → Arch → List (List ℕ) → Result Told Stop → Type 0
 IsLearnedBundleOf folder native words told =
     (told ≡ Err Usage)
     ⊎ ((told ≡ Err OutOfMemory)
-    ⊎ ((logs : List (List ℕ)) × (runtime : Option Runtime) × (otherwise : Option Otherwise) × (profile : Option (List ℕ))
-    × AskFor words logs runtime otherwise profile × IsAskedFrom folder native logs runtime otherwise profile told))
+    ⊎ ((logs : List (List ℕ)) × (runtime : Option Runtime) × (otherwise : Otherwise) × AskFor words logs runtime otherwise
+    × IsLearnedFrom folder native logs runtime otherwise told))
 
 -- the same in the form that the words ask for
 pub record IsLearnedOf (folder : Option Folder) (native : Arch) (words : List (List ℕ)) (told : Result Told Stop) : Type 0 where
