@@ -49,14 +49,11 @@ impl<'a> Question<'a> {
 
     /// The next six arguments.
     pub fn arguments(&mut self) -> [u64; 6] {
-        [
-            self.number(),
-            self.number(),
-            self.number(),
-            self.number(),
-            self.number(),
-            self.number(),
-        ]
+        let mut arguments = [0; 6];
+        for argument in &mut arguments {
+            *argument = self.number();
+        }
+        arguments
     }
 
     /// The next record: number, token, pointer and arguments.

@@ -1,7 +1,9 @@
 -- What `read` tells of a bundle, and the line behind it; and why there is no text of a profile.
 use Rattle.std.proofs.Common.{◌≡◌, ◌≢◌, ◌++◌, ℕ, Bool, true, false, List, refl, inl, inr, sym}
+use Rattle.std.proofs.lemmas.Bool.{both_ways, not-true}
 use Rattle.std.specs.Prelude.{IfOk, IfSome, Result, Ok, Err, codes, not}
 use Rattle.call_tables.specs.declared.arch.Arch.{Arch}
+use Rattle.compare.specs.Hints.{IsUnhinted, SomeGetPast}
 use Rattle.profile_json.specs.Breaks.{Breaks}
 use Rattle.profile_json.specs.Fault.{fault_of, text_of}
 use Rattle.profile_json.specs.declared.fault.ProfileError.{ProfileError}
@@ -16,12 +18,16 @@ of_not true is = refl
 of_not false is = sym is
 
 module _ (native : Arch) (bundle : List ℕ) (told : Told) (is : IsReadOut native bundle told) where
-  pub tells_same : TellsRead native bundle told
-  tells_same = record { inner = told; is_read = is; same = inl refl }
+  pub tells_same : (told.done ≡ true → IsUnhinted native bundle) → TellsRead native bundle told
+  tells_same why = record { inner = told; is_read = is; hinted = inr (refl, why) }
 
-  pub tells_hint : {E : Type 0} (r : Result Told E) → IfOk r (HasHint told) → IfOk r (TellsRead native bundle)
-  tells_hint (Ok other) hint = record { inner = told; is_read = is; same = inr hint }
-  tells_hint (Err e) hint = tt
+  -- a bundle that is refused
+  pub tells_refused : not told.done ≡ true → TellsRead native bundle told
+  tells_refused undone = tells_same (λ done. absurd (both_ways told.done (not-true told.done undone) done))
+
+  pub tells_hint : {E : Type 0} (r : Result Told E) → SomeGetPast native bundle → IfOk r (HasHint told) → IfOk r (TellsRead native bundle)
+  tells_hint (Ok other) past hint = record { inner = told; is_read = is; hinted = inl (hint, past) }
+  tells_hint (Err e) past hint = tt
 
 pub refuses : {E : Type 0} (native : Arch) (bundle : List ℕ) (e : ProfileError) → IfSome (fault_of e) (Breaks bundle native)
     → (r : Result Told E) → IfOk r (TellsLine (codes "refused profile " ++ text_of e)) → IfOk r (λ told. e ≢ OutOfMemory)

@@ -1,6 +1,7 @@
 -- What `read` and `lint` tell of a bundle.
 use Rattle.std.specs.Prelude.{ℕ, ◌≡◌, ◌⊎◌, true, List, ◌++◌, codes}
 use Rattle.call_tables.specs.declared.arch.Arch.{Arch}
+use Rattle.compare.specs.Hints.{IsUnhinted, SomeGetPast}
 use Rattle.compare.specs.Linted.{IsLinted}
 use Rattle.show.specs.Read.{IsReadOut}
 use Rattle.show.specs.Unread.{RefusesUnread}
@@ -8,7 +9,7 @@ use Rattle.wording.specs.Told.{RefusesBundle, TellsText}
 use Rattle.wording.specs.declared.told.Told.{Told}
 use Rattle.rules_text.specs.Text.{IsTextOf}
 
--- the line that may stand behind what a bundle means
+-- the line behind what a bundle means
 abbrev pub hint : List ℕ
 hint = codes "ccell lint reports calls that get past this bundle\n"
 
@@ -18,11 +19,11 @@ pub record HasHint (inner told : Told) : Type 0 where
   pub meant : inner.done ≡ true
   pub done : told.done ≡ true
 
--- what the bundle means, or why it is refused; the line may stand behind it
+-- What the bundle means, or why it is refused. If the line stands behind what it means, some call gets past the bundle; if not, there is a reason.
 pub record TellsRead (native : Arch) (bundle : List ℕ) (told : Told) : Type 0 where
   pub inner : Told
   pub is_read : IsReadOut native bundle inner
-  pub same : (told ≡ inner) ⊎ HasHint inner told
+  pub hinted : (HasHint inner told × SomeGetPast native bundle) ⊎ ((told ≡ inner) × (inner.done ≡ true → IsUnhinted native bundle))
 
 -- what `lint` finds, and the lines of what is not read: it is done only if nothing is found, and all is read
 pub record TellsLinted (native : Arch) (bundle : List ℕ) (told : Told) : Type 0 where

@@ -243,7 +243,7 @@ fn obey<'a, F: Files, I: Source, O: Sink, E: Sink>(
         Command::Read => read_as(alloc, parts, files, out),
         Command::Record => tell(record(alloc, native, parts.from_two), out),
         Command::Assemble => tell(assembled(alloc, parts.one, files), out),
-        Command::Annotate => tell(annotated(alloc, native, parts.two, files), out),
+        Command::Annotate => { tell(annotated(alloc, native, parts.two, parts.three, files), out) }
         Command::Draw => tell(drawn(alloc, native, parts.two, files), out),
         Command::Lint => tell(linted(alloc, native, parts.two, files), out),
         Command::Compare => compare_as(alloc, parts, files, out),

@@ -15,17 +15,28 @@ use rules_text::bundle_text;
 use std::alloc::{AllocError, Global};
 use wording::{Told, refused_profile};
 
-/// The lines of a filter's listing, with what they mean.
+// What is shown of a filter: the lines of its listing, with what they mean, or behind `cost` what it costs the calls.
+fn shown_as(alloc: Global, native: Arch, filter: &[u8], word: &str) -> Result<Told, AllocError>
+    ensures { IfOk result (IsAnnotated filter.now) }
+{
+    if word == "cost" {
+        return show::costs(alloc, native, filter);
+    }
+    show::annotated(alloc, native, filter)
+}
+
+/// What is shown of a filter, as the word behind it asks.
 pub(crate) fn annotated<'a, F: Files>(
     alloc: Global,
     native: Arch,
     filter: &'a str,
+    word: &str,
     files: &mut F,
 ) -> Result<Told, Stop<'a>>
     ensures { IsToldOf (F.folder files.old) (filter.entry.now ∷ []) (of_one IsAnnotated) result }
 {
     match read_filter(alloc, files, filter) {
-        Ok(bytes) => match show::annotated(alloc, native, &bytes) {
+        Ok(bytes) => match shown_as(alloc, native, &bytes, word) {
             Ok(told) => Ok(told),
             Err(_no_memory) => Err(Stop::OutOfMemory),
         },

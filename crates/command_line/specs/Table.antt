@@ -2,7 +2,7 @@
 use Rattle.std.specs.Prelude.{ℕ, List, [], ◌∷◌, map, codes}
 use denote.Ref.{Bor}
 use Rattle.command_line.specs.declared.meanings.Meaning.{Meaning}
-use Rattle.command_line.specs.declared.meanings.Meaning.TheVariants.{Machine, Form, Certified, ReadAs, Compared}
+use Rattle.command_line.specs.declared.meanings.Meaning.TheVariants.{Machine, Form, Certified, ReadAs, ShownAs, Compared}
 use Rattle.command_line.specs.declared.prose.Command.{Command}
 use Rattle.command_line.specs.declared.table.TheConstants.{COMMANDS}
 
@@ -46,5 +46,6 @@ words_of Machine = codes "linux-x86-64" ∷ codes "linux-aarch64" ∷ codes "x86
 words_of Form = codes "raw" ∷ codes "listing" ∷ codes "cert" ∷ []
 words_of Certified = codes "runc" ∷ codes "all" ∷ []
 words_of ReadAs = codes "rules" ∷ []
+words_of ShownAs = codes "cost" ∷ []
 words_of Compared = codes "atmost" ∷ codes "filters" ∷ []
 words_of other = []

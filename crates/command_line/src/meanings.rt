@@ -13,6 +13,7 @@ pub enum Meaning {
     Compared,
     ReadAs,
     Filter,
+    ShownAs,
     Certified,
     Record,
     Certificate,
@@ -45,6 +46,9 @@ impl Meaning {
                 "the profile is written as a line for each rule, for another program\n[possible values: rules]"
             }
             Meaning::Filter => { "a file with instructions of eight bytes" }
+            Meaning::ShownAs => {
+                "what is shown in place of the listing is what the filter costs the calls of the machine\n[possible values: cost]"
+            }
             Meaning::Certified => {
                 "the filter is of runc, which puts its ENOSYS stub in front; or all calls are reported that differ\n[possible values: runc, all]"
             }
@@ -55,10 +59,10 @@ impl Meaning {
                 "what is written of the filter: its bytes, its text or its certificate\n[possible values: raw, listing, cert]"
             }
             Meaning::Call => {
-                "a call by its name or as MACHINE:NUMBER, and its arguments, which are numbers"
+                "a call by its name or as MACHINE:NUMBER, and its arguments: numbers, or names of constants as\nCLONE_NEWUSER|CLONE_NEWNS"
             }
             Meaning::AskedCall => {
-                "a call by its name or as MACHINE:NUMBER, and its arguments, which are numbers;\nor a question with one of the words below\n[possible values: any, record, audit]"
+                "a call by its name or as MACHINE:NUMBER, and its arguments: numbers, or names of constants as\nCLONE_NEWUSER|CLONE_NEWNS; or a question with one of the words below\n[possible values: any, record, audit]"
             }
             Meaning::Config => {
                 "a file: a config.json, an engine's own profile, a section linux.seccomp by itself or a\nKubernetes object"
@@ -85,6 +89,7 @@ impl Meaning {
             Meaning::Form => &["raw", "listing", "cert"],
             Meaning::Certified => &["runc", "all"],
             Meaning::ReadAs => &["rules"],
+            Meaning::ShownAs => &["cost"],
             Meaning::Compared => &["atmost", "filters"],
             _ => &[],
         }

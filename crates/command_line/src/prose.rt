@@ -74,7 +74,8 @@ conditions hold.
 CALL any: what the bundle says of the call whatever its arguments.
 record HEX: the call of the 128 digits that certify reports.
 audit: the lines that a kernel logs of filters (type=1326), read from standard input.
-Status 0, or 1 and a line that begins with 'refused'.
+Status 0, or 1 and a line that begins with 'refused'. With linux-.. a second line says which word
+is wrong.
 
 Example: ccell explain x86-64 web.json write 1 0 0x100000000
 ";
@@ -146,7 +147,7 @@ Example: ccell replay linux-x86-64 web.json web.log unused
 ";
 
 const RECORD: &str = "Writes the 64 bytes of a call record, as verdict takes it.
-Status 0, or 1 and the line 'refused call'.
+Status 0, or 1 and the line 'refused call'; with linux-.. a second line says which word is wrong.
 
 Example: ccell record x86-64 write 1 0 4097 > write.rec
 ";
@@ -160,7 +161,8 @@ Example: ccell assemble web.listing > web.bpf
 
 const ANNOTATE: &str =
     "Shows each instruction with its position, where jumps lead, and the names of calls, arguments and
-actions. An L stands before a position that jumps lead to.
+actions. An L stands before a position that jumps lead to. With cost it shows what the filter costs a
+call: which calls Linux answers without running it, and how many instructions the others run.
 Status 0, or 1 if the kernel refuses the filter, with the cause in the last line.
 
 Example: ccell annotate linux-x86-64 web.bpf

@@ -35,6 +35,8 @@ const READ_AS: Part = ("WORD", Meaning::ReadAs);
 
 const FILTER: Part = ("FILTER", Meaning::Filter);
 
+const SHOWN_AS: Part = ("WORD", Meaning::ShownAs);
+
 const CERTIFIED: Part = ("WORD", Meaning::Certified);
 
 const RECORD: Part = ("RECORD", Meaning::Record);
@@ -161,8 +163,8 @@ pub const COMMANDS: &[Entry] = &[
     ),
     (
         "annotate",
-        (2, 2),
-        &[MACHINE, FILTER],
+        (2, 3),
+        &[MACHINE, FILTER, SHOWN_AS],
         "the listing of any filter, with what its lines mean",
         Command::Annotate,
     ),

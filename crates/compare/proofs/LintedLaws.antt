@@ -1,5 +1,5 @@
 -- What is told of a bundle, by what is told of its parts.
-use Rattle.std.proofs.Common.{ℕ, ◌++◌, List, inl, inr}
+use Rattle.std.proofs.Common.{ℕ, ◌≡◌, ◌++◌, Bool, false, List, inl, inr}
 use Rattle.std.specs.Prelude.{◌≢◌, IfOk, IfSome, Result, Ok, Err, codes}
 use Rattle.call_tables.specs.declared.arch.Arch.{Arch}
 use Rattle.wording.specs.Told.{TellsLine}
@@ -8,6 +8,8 @@ use Rattle.profile_json.specs.Breaks.{Breaks}
 use Rattle.profile_json.specs.Fault.{fault_of, text_of}
 use Rattle.profile_json.specs.declared.fault.ProfileError.{ProfileError}
 use Rattle.profile_json.specs.declared.fault.ProfileError.TheVariants.{OutOfMemory}
+use Rattle.profile_json.specs.declared.fault.ProfileError.TheVariants.{OutOfMemory}
+use Rattle.compare.specs.Hints.{IsUnhinted, refused}
 use Rattle.compare.specs.Linted.{IsJudged, IsLinted}
 
 module _ {E : Type 0} (native : Arch) (bundle : List ℕ) where
@@ -21,3 +23,9 @@ module _ {E : Type 0} (native : Arch) (bundle : List ℕ) where
   pub is_judged : (r : Result Told E) → IfOk r (IsJudged native bundle) → IfOk r (IsLinted native bundle)
   is_judged (Ok told) h = inr h
   is_judged (Err x) h = h
+
+  -- it is refused, and gets no hint
+  pub refused_hint : (e : ProfileError) (r : Result Bool E) → IfSome (fault_of e) (Breaks bundle native)
+      → IfOk r (λ told. e ≢ OutOfMemory) → IfOk r (λ told. told ≡ false → IsUnhinted native bundle)
+  refused_hint e (Ok told) stands fault = λ no. refused e fault stands
+  refused_hint e (Err x) stands fault = fault

@@ -7,6 +7,7 @@ use Rattle.call_tables.specs.declared.arch.Family.{Family}
 use Rattle.differ.specs.declared.named.Call.{Call}
 use Rattle.differ.specs.inner.Named.{is_named}
 use Rattle.profile.specs.Policy.{Policy}
+use Rattle.unread_bits.specs.Crowded.{AreCrowded}
 use Rattle.unread_bits.specs.Past.{AreAllPast, GetsPast}
 use Rattle.unread_bits.specs.declared.calls.AllPast.{AllPast}
 use Rattle.unread_bits.specs.declared.past.Past.{Past}
@@ -18,6 +19,12 @@ use Rattle.compare.specs.declared.search.Crowded.{Crowded}
 pub some_gets_past : (p : Policy) (list : List Past) → All (GetsPast p) list → (list ≢ []) → (past : Past) × GetsPast p past
 some_gets_past p [] all some = absurd (some refl)
 some_gets_past p (x ∷ xs) all some = (x, All-head (GetsPast p) x xs all)
+
+-- one of some calls that are not decided
+pub some_crowded : (family : Family) (p : Policy) (list : List Crowded) → All (IsUndecided family p) list → (list ≢ [])
+    → (token : ℕ) × (nr : ℕ) × AreCrowded p token nr
+some_crowded family p [] all some = absurd (some refl)
+some_crowded family p (x ∷ xs) all some = (x.token, x.nr, (All-head (IsUndecided family p) x xs all).is)
 
 -- the crowded calls are named
 abbrev pub AreNamed : List Call → List Crowded → Type 0

@@ -12,6 +12,7 @@ pub mod inner
 pub mod Past
 pub mod LintTold
 pub mod Linted
+pub mod Hints
 pub mod Behind
 pub mod StubTold
 pub mod Stub

@@ -8,9 +8,7 @@ use Rattle.widths.specs.Narrow.{IsBundle}
 use Rattle.profile.specs.Policy.{Policy}
 use Rattle.compare.specs.LintTold.{TellsFound}
 use Rattle.compare.specs.Past.{IsFinding}
-use Rattle.unread_bits.specs.Past.{GetsPast}
 use Rattle.compare.specs.declared.lint.past.Finding.{Finding}
-use Rattle.unread_bits.specs.declared.past.Past.{Past}
 use Rattle.compare.specs.declared.lint.past.Finding.TheVariants.{Nothing, GetPast, Undecided}
 
 abbrev pub is_nothing : Finding → Bool
@@ -29,7 +27,3 @@ pub record IsJudged (native : Arch) (bundle : List ℕ) (told : Told) : Type 0 w
 
 abbrev pub IsLinted : Arch → List ℕ → Told → Type 0
 IsLinted native bundle told = RefusesBundle native bundle told ⊎ IsJudged native bundle told
-
--- some call gets past the profile that the bundle means
-abbrev pub SomeGetPast : Arch → List ℕ → Type 0
-SomeGetPast native bundle = (p : Policy) × IsBundle native bundle p × (past : Past) × GetsPast p past

@@ -38,9 +38,9 @@ errno_same : (k : List ℕ) (a b : Data) (x : Action) (n : ℕ) → member whole
 errno_same k a b x _ same (none e) = none (same ∙ e)
 errno_same k a b x _ same (given n e takes small) = given n (same ∙ e) takes small
 
-default_same : (a b : Data) (w : ℕ) → IsSameHead a b → VerdictMeans key.default_action key.default_errno_ret b w
-    → VerdictMeans key.default_action key.default_errno_ret a w
-default_same a b w same m = record {
+default_same : (family : Family) (a b : Data) (w : ℕ) → IsSameHead a b → VerdictMeans family key.default_action key.default_errno_ret b w
+    → VerdictMeans family key.default_action key.default_errno_ret a w
+default_same family a b w same m = record {
   action = m.action;
   action_is = (m.action_is.0, same.action ∙ m.action_is.1, m.action_is.2);
   errno = m.errno;
@@ -93,9 +93,9 @@ module _ (native : Arch) (draft bytes : List ℕ) (rules : List Rule) (ends : Li
       subst (λ d. IsSameHead d m.seccomp) first (subst (λ d. IsSameHead both.first d) second both.same)
 
   pub default_kept : AreOfSameHead draft bytes → (are : AreRulesOf native draft rules ends) → IsText bytes t → Means t native p
-      → VerdictMeans key.default_action key.default_errno_ret are.seccomp p.default_word
+      → VerdictMeans (family_of native) key.default_action key.default_errno_ret are.seccomp p.default_word
   default_kept same are is_text m =
-      default_same are.seccomp m.seccomp p.default_word (sections_same same are is_text m) m.default_is
+      default_same (family_of native) are.seccomp m.seccomp p.default_word (sections_same same are is_text m) m.default_is
 
   pub machines_kept : AreOfSameHead draft bytes → (are : AreRulesOf native draft rules ends) → IsText bytes t → Means t native p
       → p.machines ≡ in_order (family_of native) are.archs

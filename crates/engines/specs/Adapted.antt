@@ -31,7 +31,7 @@ pub record SettlesDraft (native : Arch) (choice : Choice) (draft bytes : List â„
   pub are : AreRulesOf native draft rules ends
   pub settles : Settles choice rules policy
   -- its default verdict is that of the draft's section
-  pub default_is : VerdictMeans key.default_action key.default_errno_ret are.seccomp policy.default_word
+  pub default_is : VerdictMeans (family_of native) key.default_action key.default_errno_ret are.seccomp policy.default_word
   -- its machines are those that the draft lists
   pub machines_are : policy.machines â‰¡ in_order (family_of native) are.archs
 

@@ -1,4 +1,5 @@
 //! The bundle of a section.
+use crate::actions::text_at;
 use crate::changes::Changes;
 use crate::config::{Section, put_edition, tell_section_keys};
 use crate::entries::put_entries;
@@ -8,6 +9,7 @@ use crate::place::Place;
 use crate::settings::Settings;
 use crate::text::Text;
 use crate::verdicts::{OF_SECTION, put_verdict};
+use call_tables::Family;
 use serde_json::Value;
 use std::alloc::{AllocError, Global};
 
@@ -25,47 +27,116 @@ impl Bundle {
     }
 }
 
-// The flags without which no call is answered less strictly: logging, a mitigation that is given up, how a listener waits.
+// The flags of which a bundle may have any for the machines with all calls of Linux.
+const FLAGS: &[&str] = &[
+    "SECCOMP_FILTER_FLAG_TSYNC",
+    "SECCOMP_FILTER_FLAG_LOG",
+    "SECCOMP_FILTER_FLAG_SPEC_ALLOW",
+    "SECCOMP_FILTER_FLAG_WAIT_KILLABLE_RECV",
+];
+
+// Those without which no call is answered less strictly: logging, a mitigation that is given up, how a listener waits.
 const HARMLESS_FLAGS: &[&str] = &[
     "SECCOMP_FILTER_FLAG_LOG",
     "SECCOMP_FILTER_FLAG_SPEC_ALLOW",
     "SECCOMP_FILTER_FLAG_WAIT_KILLABLE_RECV",
 ];
 
-fn is_harmless(flag: &str) -> bool {
-    HARMLESS_FLAGS.iter().any(|other| *other == flag)
+fn is_one_of(flags: &'static [&'static str], flag: &Value) -> bool {
+    let name = flag.as_str().unwrap_or("");
+    flags.iter().any(|other| *other == name)
 }
 
-// Tells the flags of a section, which are left out.
-fn tell_flags(changes: &mut Changes, place: Place<'_>, flags: &[Value]) {
-    for (at, flag) in flags.iter().enumerate() {
-        let name = flag.as_str().unwrap_or("");
-        let what = "is not read, and left out";
-        changes.tell_text(place.member(at), name, what, !is_harmless(name));
+// Whether what stands in a section beside its profile is read for a family.
+fn is_read(family: Family) -> bool {
+    match family {
+        Family::Chosen => false,
+        Family::Whole => true,
     }
 }
 
-// Adds the flags of a section, if they are no list.
-fn put_flags(text: &mut Text, changes: &mut Changes, place: Place<'_>, section: &Value) {
+// The flags that are read for a family.
+fn flags_of(family: Family) -> &'static [&'static str] {
+    match family {
+        Family::Chosen => &[],
+        Family::Whole => FLAGS,
+    }
+}
+
+// Tells a flag that is left out.
+fn tell_flag(changes: &mut Changes, place: Place<'_>, flag: &Value) {
+    let name = flag.as_str().unwrap_or("");
+    let what = "is not read, and left out";
+    changes.tell_text(place, name, what, !is_one_of(HARMLESS_FLAGS, flag));
+}
+
+// Adds the flags that are read, and tells the others.
+fn put_each_flag(
+    text: &mut Text,
+    changes: &mut Changes,
+    place: Place<'_>,
+    read: &'static [&'static str],
+    flags: &[Value],
+) {
+    let mut has_begun = false;
+    for (at, flag) in flags.iter().enumerate() {
+        if !is_one_of(read, flag) {
+            tell_flag(changes, place.member(at), flag);
+        } else {
+            if !has_begun {
+                text.separate(", ");
+                text.begin("\"flags\": [");
+                has_begun = true;
+            }
+            text.separate(", ");
+            text.put(format_args!("{flag}"));
+        }
+    }
+    if has_begun {
+        text.end("]");
+    }
+}
+
+// Adds the flags of a section that are read.
+fn put_flags(
+    text: &mut Text,
+    changes: &mut Changes,
+    family: Family,
+    place: Place<'_>,
+    section: &Value,
+) {
+    let read = flags_of(family);
     match section.get("flags").and_then(Value::as_array) {
-        Some(flags) => tell_flags(changes, place.key("flags"), flags.as_slice()),
+        Some(flags) => put_each_flag(text, changes, place.key("flags"), read, flags.as_slice()),
         None => put_member(text, section, "flags"),
     }
 }
 
-// Adds the member of a listener, if it is no text. No action is read that asks a listener, so without it no call is answered
-// less strictly.
+// Tells that the member of a listener is left out. No call is answered less strictly without it.
+fn tell_listener(changes: &mut Changes, place: Place<'_>, family: Family) {
+    let what = if is_read(family) {
+        "says nothing without listenerPath, and is left out"
+    } else {
+        "is not read, and left out"
+    };
+    changes.tell(place, what, false);
+}
+
+// Adds the member of a listener, if it is read.
 fn put_listener(
     text: &mut Text,
     changes: &mut Changes,
+    family: Family,
     place: Place<'_>,
     section: &Value,
     key: &str,
 ) {
     match section.get(key).and_then(Value::as_str) {
         Some("") => {}
-        Some(_) => changes.tell(place.key(key), "is not read, and left out", false),
-        None => put_member(text, section, key),
+        Some(_) if !is_read(family) || text_at(section, "listenerPath") == "" => {
+            tell_listener(changes, place.key(key), family)
+        }
+        _ => put_member(text, section, key),
     }
 }
 
@@ -78,9 +149,10 @@ fn put_head(
     section: &Value,
 ) {
     put_verdict(text, changes, settings, place, section, OF_SECTION);
-    put_flags(text, changes, place, section);
-    put_listener(text, changes, place, section, "listenerPath");
-    put_listener(text, changes, place, section, "listenerMetadata");
+    let family = settings.family();
+    put_flags(text, changes, family, place, section);
+    put_listener(text, changes, family, place, section, "listenerPath");
+    put_listener(text, changes, family, place, section, "listenerMetadata");
     put_machines(text, changes, settings, place, section);
 }
 
@@ -118,7 +190,7 @@ pub(crate) fn bundle_of(
     let mut places = Vec::new(alloc);
     let place = Place::top(section.top);
     text.put("{\n  \"ociVersion\": ");
-    put_edition(&mut text, changes, config);
+    put_edition(&mut text, changes, settings.family(), config);
     text.begin(",\n  \"linux\": {\n    \"seccomp\": {\n      ");
     put_head(&mut text, changes, settings, place, section.value);
     put_syscalls(

@@ -3,6 +3,7 @@ use crate::changes::Changes;
 use crate::keys::{SECTION, member_at, tell_keys, tell_other_cases};
 use crate::place::Place;
 use crate::text::Text;
+use call_tables::Family;
 use serde_json::Value;
 
 /// A section, and what stands before it in a place.
@@ -63,19 +64,27 @@ pub(crate) fn tell_section_keys(
 
 const EDITION: &str = "\"1.0.2\"";
 
-fn is_read(edition: &str) -> bool {
-    edition == "1.0.2" || edition == "1.1.0"
+// The editions that are read for the machines of a family.
+fn editions_of(family: Family) -> &'static [&'static str] {
+    match family {
+        Family::Chosen => &["1.0.2", "1.1.0"],
+        Family::Whole => &["1.0.2", "1.1.0", "1.2.0", "1.2.1"],
+    }
+}
+
+fn is_read(family: Family, edition: &str) -> bool {
+    editions_of(family).iter().any(|read| *read == edition)
 }
 
 /// Adds the edition of a configuration: one of the first that is not read is written as one that is.
-pub(crate) fn put_edition(text: &mut Text, changes: &mut Changes, config: &Value) {
+pub(crate) fn put_edition(text: &mut Text, changes: &mut Changes, family: Family, config: &Value) {
     let place = Place::top("").key("ociVersion");
     let Some(member) = member_at(config, "ociVersion") else {
         changes.tell(place, "missing, and written as 1.0.2", false);
         return text.put(EDITION);
     };
     let edition = member.as_str().unwrap_or("");
-    if is_read(edition) || !edition.starts_with("1.") {
+    if is_read(family, edition) || !edition.starts_with("1.") {
         return text.put(format_args!("{member}"));
     }
     let what = "is not read, and is written as 1.0.2";

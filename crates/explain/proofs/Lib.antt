@@ -1,5 +1,6 @@
 mod AskedLaws
 mod ToldLaws
+mod RefusedLaws
 mod AnswerLaws
 mod WhatLaws
 mod FieldLaws

@@ -8,6 +8,7 @@ use Rattle.call_tables.specs.declared.arch.Arch.{Arch}
 use Rattle.call_tables.specs.declared.arch.Family.{Family}
 use Rattle.call_tables.specs.Arch.{family_of, token_of}
 use Rattle.call_tables.specs.Numbers.{has_call}
+use Rattle.call_words.specs.Wrong.{TellsWrongCall}
 use Rattle.profile.specs.declared.conditions.Cond.{Cond}
 use Rattle.profile.specs.declared.rules.Rule.{Rule}
 use Rattle.profile.specs.Policy.{Policy}
@@ -16,8 +17,9 @@ use Rattle.script.specs.Commands.{Call}
 use Rattle.wording.specs.declared.told.Told.{Told}
 use Rattle.wording.specs.Phrases.{action_text, call_on, condition_text, machine_with}
 use Rattle.wording.specs.Reason.{entry_at}
-use Rattle.wording.specs.Told.{RefusesBundle, TellsLine}
+use Rattle.wording.specs.Told.{RefusesBundle}
 use Rattle.wording.specs.Understood.{IsReadAs}
+use Rattle.explain.specs.Refused.{Refuses}
 
 -- conditions, the first behind `if` and the others behind `and`
 abbrev pub conditions_text : List ℕ → List Cond → List ℕ
@@ -80,10 +82,10 @@ pub record IsWhat (native : Arch) (word : List ℕ) (arch : Arch) (nr : ℕ) : T
   pub args : List ℕ
   pub is_line : LineIs native (codes "call c 1 " ++ word) (Some (Call id task arch nr args None))
 
--- the word asks for no call, and the line that says so is told
+-- the word asks for no call, and the lines are told that say so and why
 pub record RefusesWord (native : Arch) (word : List ℕ) (told : Told) : Type 0 where
   pub none : (arch : Arch) (nr : ℕ) → IsWhat native word arch nr → ⊥
-  pub tells : TellsLine (codes "refused call") told
+  pub refuses : Refuses native (TellsWrongCall native word []) told
 
 -- it was done: a text tells it of the call that the word asks for
 pub record TellsAny (native : Arch) (bundle word : List ℕ) (told : Told) : Type 0 where

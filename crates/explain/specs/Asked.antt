@@ -1,10 +1,12 @@
--- Which call record command line arguments ask for: by a call and its arguments, as a line of a script does, or by its bytes.
+-- Which call record command line arguments ask for: by a call and its arguments, as a line of a script does and also by names of
+-- constants, or by its bytes.
 use Rattle.std.specs.Prelude.{ℕ, ◌≡◌, ◌==◌, Bool, true, false, List, [], ◌∷◌, ◌++◌, Some, None, Ok, codes}
 use Rattle.std.specs.List.{flat_map, list_any}
 use Rattle.std.specs.Str.{bytes_eq}
 use denote.Ref.{Bor}
 use Rattle.hex.specs.Hex.{decode_sized}
 use Rattle.texts.specs.Lines.{space}
+use Rattle.call_words.specs.Constants.{numeral}
 use Rattle.call_tables.specs.declared.arch.Arch.{Arch}
 use Rattle.call_tables.specs.Arch.{token_of}
 use Rattle.call_record.specs.declared.layout.Record.{Record}
@@ -13,9 +15,14 @@ use Rattle.call_record.specs.Words.{words_of}
 use Rattle.script.specs.Grammar.{LineIs}
 use Rattle.script.specs.Commands.{Call}
 
+-- a call's name or number, and its arguments behind it: a name of a constant, or several with bars between them, is its number
+abbrev pub call_text : List (Bor (List ℕ)) → List ℕ
+call_text [] = []
+call_text (word ∷ arguments) = space ∷ word.now ++ flat_map (λ a. space ∷ numeral a.now) arguments
+
 -- the line of a script that the command line arguments make: a call of the first task of a container c
 abbrev pub line_of : List (Bor (List ℕ)) → List ℕ
-line_of given = codes "call c 1" ++ flat_map (λ w. space ∷ w.now) given
+line_of given = codes "call c 1" ++ call_text given
 
 abbrev pub has_space : List ℕ → Bool
 has_space argument = list_any (λ b. b == space) argument

@@ -1,6 +1,7 @@
 pub mod Explanation
 pub mod Explainer
 pub mod Asked
+pub mod Refused
 pub mod Told
 pub mod Any
 pub mod Answers

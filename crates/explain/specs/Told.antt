@@ -14,13 +14,15 @@ use Rattle.bpf_asm.specs.declared.fault.AsmError.{AsmError}
 use Rattle.bpf_asm.specs.declared.fault.AsmError.TheVariants.{OutOfMemory as NoMemory}
 use Rattle.wording.specs.Told.{RefusesBundle, TellsLine, TellsText}
 use Rattle.wording.specs.declared.told.Told.{Told}
+use Rattle.call_words.specs.Wrong.{TellsWrong}
 use Rattle.explain.specs.Asked.{IsCall, IsAsked}
 use Rattle.explain.specs.Explanation.{Explains}
+use Rattle.explain.specs.Refused.{Refuses, TellsWhyNot}
 
--- there is no record that is asked for, and the line that says so is told
-pub record RefusesCall (Asks : Record → Type 0) (told : Told) : Type 0 where
+-- there is no record that is asked for, and the lines are told that say so and why
+pub record RefusesCall (native : Arch) (Asks : Record → Type 0) (TellsWhy : List ℕ → Type 0) (told : Told) : Type 0 where
   pub none : (r : Record) → Asks r → ⊥
-  pub tells : TellsLine (codes "refused call") told
+  pub refuses : Refuses native TellsWhy told
 
 -- it was done: a text explains what the bundle says of the record that the command line arguments ask for
 pub record ExplainsCall (native : Arch) (bundle : List ℕ) (given : List (Bor (List ℕ))) (told : Told) : Type 0 where
@@ -31,7 +33,8 @@ pub record ExplainsCall (native : Arch) (bundle : List ℕ) (given : List (Bor (
 
 abbrev pub IsExplained : Arch → List ℕ → List (Bor (List ℕ)) → Told → Type 0
 IsExplained native bundle given told =
-    RefusesCall (IsCall native given) told ⊎ (RefusesBundle native bundle told ⊎ ExplainsCall native bundle given told)
+    RefusesCall native (IsCall native given) (TellsWhyNot native given) told
+    ⊎ (RefusesBundle native bundle told ⊎ ExplainsCall native bundle given told)
 
 -- it was done: the 64 bytes of the record that the command line arguments ask for
 pub record TellsRecord (native : Arch) (given : List (Bor (List ℕ))) (told : Told) : Type 0 where
@@ -42,7 +45,7 @@ pub record TellsRecord (native : Arch) (given : List (Bor (List ℕ))) (told : T
   pub done : told.done ≡ true
 
 abbrev pub IsRecorded : Arch → List (Bor (List ℕ)) → Told → Type 0
-IsRecorded native given told = RefusesCall (IsAsked native given) told ⊎ TellsRecord native given told
+IsRecorded native given told = RefusesCall native (IsAsked native given) (TellsWrong native given) told ⊎ TellsRecord native given told
 
 -- it was done: the bytes of a program whose listing the text is
 pub record TellsProgram (text : List ℕ) (told : Told) : Type 0 where

@@ -3,15 +3,18 @@ ghost use Rattle.std.specs.Prelude.{◌≡◌, ◌++◌, ◌∷◌, IfOk, IfSome
 ghost use Rattle.std.specs.List.{flat_map, list_any};
 ghost use Rattle.texts.specs.Lines.{space};
 ghost use Rattle.call_record.specs.declared.layout.Record.{Record as TheRecord};
+ghost use Rattle.call_words.specs.Constants.{numeral};
 ghost use Rattle.script.specs.Requests.{command_of};
 ghost use Rattle.explain.specs.Asked as spec;
 ghost use Rattle.explain.specs.inner.Found.{IsRecordIn};
 
 use call_record::Record;
 use call_tables::Arch;
+use call_words::sum;
 use hex::FromHex;
 use script::{Request, one_command, read_line};
 use std::alloc::{AllocError, Global};
+use std::fmt::Write;
 
 fn has_space(argument: &str) -> bool
     ensures { result ≡ spec.has_space argument.now }
@@ -25,15 +28,45 @@ fn any_has_space(arguments: &[&str]) -> bool
     arguments.iter().any(|argument| has_space(argument))
 }
 
-// Adds arguments of the command line, each behind a space.
+// Adds a word behind a space.
+fn put_word(text: &mut String, word: &str) -> Result<(), AllocError>
+    ensures { IfOk result (λ _. string_bytes text.new ≡ string_bytes text.old ++ (space ∷ word.now)) }
+{
+    text.push_str(" ")?;
+    text.push_str(word)
+}
+
+// Adds an argument behind a space: the number, if it is names of constants.
+fn put_argument(text: &mut String, argument: &str) -> Result<(), AllocError>
+    ensures { IfOk result (λ _. string_bytes text.new ≡ string_bytes text.old ++ (space ∷ numeral argument.now)) }
+{
+    match sum(argument) {
+        Some(number) => write!(text, " {number}"),
+        None => put_word(text, argument),
+    }
+}
+
+// Adds arguments.
 fn put_arguments(text: &mut String, arguments: &[&str]) -> Result<(), AllocError>
-    ensures { IfOk result (λ _. string_bytes text.new ≡ string_bytes text.old ++ flat_map (λ w. space ∷ w.now) arguments.now) }
+    ensures { IfOk result (λ _. string_bytes text.new ≡ string_bytes text.old ++ flat_map (λ a. space ∷ numeral a.now) arguments.now) }
 {
     for argument in arguments {
-        text.push_str(" ")?;
-        text.push_str(argument)?;
+        put_argument(text, argument)?;
     }
     Ok(())
+}
+
+// Adds a call's name or number, and its arguments.
+fn put_call(text: &mut String, words: &[&str]) -> Result<(), AllocError>
+    ensures { IfOk result (λ _. string_bytes text.new ≡ string_bytes text.old ++ spec.call_text words.now) }
+{
+    match words {
+        [] => Ok(()),
+        [word, arguments @ ..] => {
+            put_word(text, word)?;
+            put_arguments(text, arguments)
+        }
+    }
 }
 
 // The line of a script that the command line arguments make.
@@ -41,7 +74,7 @@ fn line_of(alloc: Global, arguments: &[&str]) -> Result<String, AllocError>
     ensures { IfOk result (λ text. string_bytes text ≡ spec.line_of arguments.now) }
 {
     let mut text = String::from_str(alloc, "call c 1")?;
-    put_arguments(&mut text, arguments)?;
+    put_call(&mut text, arguments)?;
     Ok(text)
 }
 
@@ -90,7 +123,8 @@ fn call_on(native: Arch, line: &str) -> Option<Record>
     }
 }
 
-/// The record of a call that command line arguments ask for: its name or number, and its arguments, as in a line of a script.
+/// The record of a call that command line arguments ask for: its name or number, and its arguments, as in a line of a script or by
+/// names of constants.
 pub(crate) fn asked(
     alloc: Global,
     native: Arch,
@@ -117,8 +151,8 @@ fn spelled(digits: &str) -> Option<Record>
     }
 }
 
-// Whether the arguments are `record` and digits.
-fn are_bytes(arguments: &[&str]) -> bool
+/// Whether the arguments are `record` and digits.
+pub(crate) fn are_bytes(arguments: &[&str]) -> bool
     ensures { result ≡ spec.are_bytes arguments.now }
 {
     match arguments {

@@ -3,6 +3,7 @@
 
 mod asked;
 mod audited;
+mod refused;
 mod rules;
 mod telling;
 mod told;

@@ -8,6 +8,7 @@ ghost use Rattle.explain.specs.Told as spec;
 ghost use Rattle.wording.specs.Told.{TellsLine};
 
 use crate::asked::{asked, call_in};
+use crate::refused::{refused_call, refused_words};
 use crate::telling::explanation;
 use bpf_asm::{AsmError, assemble};
 use call_record::Record;
@@ -52,7 +53,7 @@ pub fn explain(
     ensures { IfOk result (spec.IsExplained native bundle.now arguments.now) }
 {
     let Some(call) = call_in(alloc, native, arguments)? else {
-        return refused(alloc, "call");
+        return refused_call(alloc, native, arguments);
     };
     match explanation(alloc, native, bundle, &call) {
         Ok(text) => Ok(Told {
@@ -79,7 +80,7 @@ pub fn record(alloc: Global, native: Arch, arguments: &[&str]) -> Result<Told, A
     ensures { IfOk result (spec.IsRecorded native arguments.now) }
 {
     let Some(call) = asked(alloc, native, arguments)? else {
-        return refused(alloc, "call");
+        return refused_words(alloc, native, arguments);
     };
     let told = recorded(alloc, &call)?;
     Ok(told)

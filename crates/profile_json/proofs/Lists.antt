@@ -1,8 +1,10 @@
 -- What a list contains, and what lists made of it contain.
-use Rattle.std.proofs.Common.{◌≡◌, ℕ, zero, suc, ◌<◌, List, [], ◌∷◌, length, map, get_or, Option, Some, None, Bool, true, ◌||◌, ◌≤◌}
+use Rattle.std.proofs.Common.{◌≡◌, ◌≢◌, ℕ, zero, suc, ◌<◌, List, [], ◌∷◌, length, map, get_or, Option, Some, None, Bool, true, false}
+use Rattle.std.proofs.Common.{◌||◌, ◌≤◌}
 use Rattle.std.proofs.Common.{drop, Bor, ◌⊎◌, inl, inr, refl, sym, ◌∙◌, ap, subst, arith}
 use Rattle.std.specs.List.{AllZip, Contains, flat_map, filter_map, cons_option, slice_get, list_any}
 use Rattle.std.specs.Str.{bytes_eq}
+use Rattle.std.proofs.lemmas.Bool.{cases_Bool}
 use Rattle.std.proofs.lemmas.Slice.Eq.{bytes_eq-Decides}
 use Rattle.std.proofs.lemmas.List.Folds.{Any-from_list_any, list_any_at}
 use Rattle.std.proofs.lemmas.Option.{same_Some}
@@ -135,6 +137,13 @@ module _ {A B : Type 0} where
       cc
 
 -- ---- texts
+
+pub is_other : (a b : List ℕ) → b ≢ a → bytes_eq a b ≡ false
+is_other a b h =
+    elim (cases_Bool (bytes_eq a b)) [
+      | inl same ↦ absurd (h (sym ((bytes_eq-Decides a b).0 same)))
+      | inr other ↦ other
+    ]
 
 pub named : (names : List (List ℕ)) (name : List ℕ) → list_any (λ n. bytes_eq n name) names ≡ true → Contains names name
 named names name h =

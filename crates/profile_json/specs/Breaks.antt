@@ -6,6 +6,7 @@ use Rattle.serde_json.specs.Read.{read}
 use Rattle.serde_json.specs.Data.{Data}
 use Rattle.call_tables.specs.declared.arch.Arch.{Arch}
 use Rattle.call_tables.specs.declared.arch.Family.{Family}
+use Rattle.call_tables.specs.declared.arch.Family.TheVariants.{Chosen, Whole}
 use Rattle.call_tables.specs.Arch.{family_of}
 use Rattle.profile.specs.declared.conditions.Op.{Op}
 use Rattle.profile.specs.declared.rules.Rule.{Rule}
@@ -20,7 +21,8 @@ use Rattle.profile_json.specs.Fault.{native_missing, unknown_call, empty_names, 
 use Rattle.profile_json.specs.Fault.{repeated_index, stray_datum, overlap, unsupported_key, too_many}
 use Rattle.profile_json.specs.Parts.{EntryParts, rule_parts}
 use Rattle.profile_json.specs.Lookup.{Member, missing, other_type, holds, member, or_default, object, text, whole, list}
-use Rattle.profile_json.specs.Names.{editions, action_named, takes_data, op_named, arch_named, is_known, most_entries, most_names}
+use Rattle.profile_json.specs.Names.{editions, action_named, takes_data, filter_flags, op_named, arch_named, is_known}
+use Rattle.profile_json.specs.Names.{most_entries, most_names}
 use Rattle.profile.specs.Machines.{in_order}
 use Rattle.profile_json.specs.Rules.{rules_under, rules_of}
 use Rattle.profile_json.specs.CallName.{short_name}
@@ -31,37 +33,54 @@ pub data NeededBreaks {A : Type 0} (m : Member A) : Fault → Type 0 where
   is_missing : m ≡ missing → NeededBreaks m missing_key
   is_other : m ≡ other_type → NeededBreaks m wrong_type
 
-pub data RootBreaks (t : Data) : Fault → Type 0 where
-  no_object : object t ≡ None → RootBreaks t wrong_type
-  version_text : (f : Fault) → IsSome (object t) → NeededBreaks (member text key.oci_version t) f → RootBreaks t f
-  version_other : (v : List ℕ) → member text key.oci_version t ≡ holds v → ¬ Contains editions v → RootBreaks t version
-  linux_missing : IsSome (object t) → member object key.linux t ≡ missing → RootBreaks t no_seccomp
-  linux_other : member object key.linux t ≡ other_type → RootBreaks t wrong_type
-  seccomp_missing : (l : Data) → member object key.linux t ≡ holds l → member object key.seccomp l ≡ missing → RootBreaks t no_seccomp
-  seccomp_other : (l : Data) → member object key.linux t ≡ holds l → member object key.seccomp l ≡ other_type → RootBreaks t wrong_type
+pub data RootBreaks (family : Family) (t : Data) : Fault → Type 0 where
+  no_object : object t ≡ None → RootBreaks family t wrong_type
+  version_text : (f : Fault) → IsSome (object t) → NeededBreaks (member text key.oci_version t) f → RootBreaks family t f
+  version_other : (v : List ℕ) → member text key.oci_version t ≡ holds v → ¬ Contains (editions family) v → RootBreaks family t version
+  linux_missing : IsSome (object t) → member object key.linux t ≡ missing → RootBreaks family t no_seccomp
+  linux_other : member object key.linux t ≡ other_type → RootBreaks family t wrong_type
+  seccomp_missing : (l : Data) → member object key.linux t ≡ holds l → member object key.seccomp l ≡ missing → RootBreaks family t no_seccomp
+  seccomp_other : (l : Data) → member object key.linux t ≡ holds l → member object key.seccomp l ≡ other_type → RootBreaks family t wrong_type
 
 -- the action under a key
-pub data ActionBreaks (k : List ℕ) (d : Data) : Fault → Type 0 where
-  action_text : (f : Fault) → NeededBreaks (member text k d) f → ActionBreaks k d f
-  action_unknown : (name : List ℕ) → member text k d ≡ holds name → action_named name ≡ None → ActionBreaks k d unknown_action
+pub data ActionBreaks (family : Family) (k : List ℕ) (d : Data) : Fault → Type 0 where
+  action_text : (f : Fault) → NeededBreaks (member text k d) f → ActionBreaks family k d f
+  action_unknown : (name : List ℕ) → member text k d ≡ holds name → action_named family name ≡ None → ActionBreaks family k d unknown_action
 
 -- the verdict of the action under one key, with the data under another
-pub data VerdictBreaks (action_key errno_key : List ℕ) (d : Data) : Fault → Type 0 where
-  action : (f : Fault) → ActionBreaks action_key d f → VerdictBreaks action_key errno_key d f
-  errno_other : member whole errno_key d ≡ other_type → VerdictBreaks action_key errno_key d wrong_type
-  not_taken : (a : Action) (n : ℕ) → NamesAction action_key d a → takes_data a ≡ false → member whole errno_key d ≡ holds n
-      → VerdictBreaks action_key errno_key d errno_not_taken
-  large : (n : ℕ) → member whole errno_key d ≡ holds n → 4095 < n → VerdictBreaks action_key errno_key d errno_range
+pub data VerdictBreaks (family : Family) (action_key errno_key : List ℕ) (d : Data) : Fault → Type 0 where
+  action : (f : Fault) → ActionBreaks family action_key d f → VerdictBreaks family action_key errno_key d f
+  errno_other : member whole errno_key d ≡ other_type → VerdictBreaks family action_key errno_key d wrong_type
+  not_taken : (a : Action) (n : ℕ) → NamesAction family action_key d a → takes_data a ≡ false → member whole errno_key d ≡ holds n
+      → VerdictBreaks family action_key errno_key d errno_not_taken
+  large : (n : ℕ) → member whole errno_key d ≡ holds n → 4095 < n → VerdictBreaks family action_key errno_key d errno_range
 
 -- a key whose member may be missing or empty alone
 pub data EmptyBreaks {A : Type 0} (m : Member (List A)) : Fault → Type 0 where
   is_other : or_default [] m ≡ None → EmptyBreaks m wrong_type
   not_empty : (xs : List A) → or_default [] m ≡ Some xs → xs ≢ [] → EmptyBreaks m unsupported_key
 
-pub data KeysBreak (s : Data) : Fault → Type 0 where
-  flags : (f : Fault) → EmptyBreaks (member list key.flags s) f → KeysBreak s f
-  path : (f : Fault) → EmptyBreaks (member text key.listener_path s) f → KeysBreak s f
-  metadata : (f : Fault) → EmptyBreaks (member text key.listener_metadata s) f → KeysBreak s f
+-- flags or a listener are used
+pub data UseBreaks (s : Data) : Fault → Type 0 where
+  flags : (f : Fault) → EmptyBreaks (member list key.flags s) f → UseBreaks s f
+  path : (f : Fault) → EmptyBreaks (member text key.listener_path s) f → UseBreaks s f
+  metadata : (f : Fault) → EmptyBreaks (member text key.listener_metadata s) f → UseBreaks s f
+
+-- a flag is none, or metadata stand there without a listener
+pub data ListenerBreaks (s : Data) : Fault → Type 0 where
+  flags_other : or_default [] (member list key.flags s) ≡ None → ListenerBreaks s wrong_type
+  flag_other : (ds : List Data) (d : Data) → or_default [] (member list key.flags s) ≡ Some ds → Contains ds d → text d ≡ None
+      → ListenerBreaks s wrong_type
+  no_flag : (ds : List Data) (d : Data) (name : List ℕ) → or_default [] (member list key.flags s) ≡ Some ds → Contains ds d
+      → text d ≡ Some name → ¬ Contains filter_flags name → ListenerBreaks s unsupported_key
+  path_other : or_default [] (member text key.listener_path s) ≡ None → ListenerBreaks s wrong_type
+  metadata_other : or_default [] (member text key.listener_metadata s) ≡ None → ListenerBreaks s wrong_type
+  no_listener : (metadata : List ℕ) → or_default [] (member text key.listener_path s) ≡ Some []
+      → or_default [] (member text key.listener_metadata s) ≡ Some metadata → metadata ≢ [] → ListenerBreaks s unsupported_key
+
+abbrev pub KeysBreak : Family → Data → Fault → Type 0
+KeysBreak Chosen s = UseBreaks s
+KeysBreak Whole s = ListenerBreaks s
 
 pub data ArchsBreak (s : Data) (native : Arch) : Fault → Type 0 where
   no_list : or_default [] (member list key.architectures s) ≡ None → ArchsBreak s native wrong_type
@@ -104,7 +123,7 @@ pub data NamesBreak (family : Family) (d : Data) : Fault → Type 0 where
 pub data EntryBreaks (family : Family) (d : Data) : Fault → Type 0 where
   no_object : object d ≡ None → EntryBreaks family d wrong_type
   names : (f : Fault) → IsSome (object d) → NamesBreak family d f → EntryBreaks family d f
-  word : (f : Fault) → IsSome (object d) → VerdictBreaks key.action key.errno_ret d f → EntryBreaks family d f
+  word : (f : Fault) → IsSome (object d) → VerdictBreaks family key.action key.errno_ret d f → EntryBreaks family d f
   args : (f : Fault) → IsSome (object d) → ArgsBreak d f → EntryBreaks family d f
 
 -- Under this name both entries have rules with unlike verdicts, and one record matches both.
@@ -134,14 +153,14 @@ pub data EntriesBreak (s : Data) (native : Arch) : Fault → Type 0 where
 
 -- the rules that the object under linux.seccomp breaks
 pub data SeccompBreaks (s : Data) (native : Arch) : Fault → Type 0 where
-  default_word : (f : Fault) → VerdictBreaks key.default_action key.default_errno_ret s f → SeccompBreaks s native f
-  keys : (f : Fault) → KeysBreak s f → SeccompBreaks s native f
+  default_word : (f : Fault) → VerdictBreaks (family_of native) key.default_action key.default_errno_ret s f → SeccompBreaks s native f
+  keys : (f : Fault) → KeysBreak (family_of native) s f → SeccompBreaks s native f
   archs : (f : Fault) → ArchsBreak s native f → SeccompBreaks s native f
   entries : (f : Fault) → EntriesBreak s native f → SeccompBreaks s native f
 
 -- the rules that a bundle breaks
 pub data ValueBreaks (t : Data) (native : Arch) : Fault → Type 0 where
-  root : (f : Fault) → RootBreaks t f → ValueBreaks t native f
+  root : (f : Fault) → RootBreaks (family_of native) t f → ValueBreaks t native f
   seccomp : (s : Data) (f : Fault) → IsSeccomp t s → SeccompBreaks s native f → ValueBreaks t native f
 
 -- the rules that the bytes break: they are no text of a value, or the value breaks one

@@ -14,7 +14,7 @@ pub record AreRulesOf (native : Arch) (bytes : List ℕ) (rules : List Rule) (en
   pub t : Data
   pub is_text : IsText bytes t
   pub seccomp : Data
-  pub root : RootMeans t seccomp
+  pub root : RootMeans (family_of native) t seccomp
   pub archs : List Arch
   pub lists_archs : ListsArchs seccomp native archs
   pub entries : List EntryParts

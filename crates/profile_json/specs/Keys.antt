@@ -1,5 +1,6 @@
--- The keys of a bundle (OCI Runtime Specification 1.0.2: config, Specification version; config-linux, Seccomp). `errnoRet` and
--- `defaultErrnoRet` come from later editions; they are read under each edition that is read, which is this project's own rule.
+-- The keys of a bundle (OCI Runtime Specification 1.0.2: config, Specification version; config-linux, Seccomp). `errnoRet`,
+-- `defaultErrnoRet`, `listenerPath` and `listenerMetadata` come from later editions; they are read under each edition that is read,
+-- which is this project's own rule.
 use Rattle.std.specs.Prelude.{ℕ, List, codes}
 
 abbrev pub oci_version : List ℕ

@@ -1,11 +1,12 @@
--- What a bundle means (OCI Runtime Specification 1.0.2 and 1.1.0, config-linux, Seccomp).
+-- What a bundle means (OCI Runtime Specification 1.0.2 to 1.2.1, config-linux, Seccomp).
 use Rattle.std.specs.Prelude.{◌≡◌, ℕ, ◌<◌, ◌≤◌, List, [], length, map, bit_and, true, Some, IsSome}
-use Rattle.std.specs.List.{AllZip, Contains}
+use Rattle.std.specs.List.{All, AllZip, Contains}
 use Rattle.std.specs.Str.{IsUtf8}
 use Rattle.serde_json.specs.Read.{read}
 use Rattle.serde_json.specs.Data.{Data}
 use Rattle.call_tables.specs.declared.arch.Arch.{Arch}
 use Rattle.call_tables.specs.declared.arch.Family.{Family}
+use Rattle.call_tables.specs.declared.arch.Family.TheVariants.{Chosen, Whole}
 use Rattle.call_tables.specs.Arch.{family_of}
 use Rattle.profile.specs.declared.rules.Rule.{Rule}
 use Rattle.profile.specs.Operator.{are_distinct, mask_of}
@@ -15,7 +16,7 @@ use Rattle.profile_json.specs.declared.action.Action.{Action}
 use Rattle.profile_json.specs.Keys as key
 use Rattle.profile_json.specs.Parts.{CondParts, EntryParts, rule_parts}
 use Rattle.profile_json.specs.Lookup.{missing, holds, member, or_default, object, text, whole, list}
-use Rattle.profile_json.specs.Names.{editions, action_named, takes_data, verdict_of, op_named, arch_named, is_known}
+use Rattle.profile_json.specs.Names.{editions, action_named, takes_data, verdict_of, filter_flags, op_named, arch_named, is_known}
 use Rattle.profile_json.specs.Names.{most_entries, most_names}
 use Rattle.profile.specs.Machines.{in_order}
 use Rattle.profile_json.specs.Rules.{or_native, rules_of}
@@ -29,16 +30,16 @@ abbrev pub IsSeccomp : Data → Data → Type 0
 IsSeccomp t s = (l : Data) × (member object key.linux t ≡ holds l) × (member object key.seccomp l ≡ holds s)
 
 -- t is a bundle of an edition that is read, with the object s under linux.seccomp
-pub record RootMeans (t s : Data) : Type 0 where
+pub record RootMeans (family : Family) (t s : Data) : Type 0 where
   pub root : IsSome (object t)
   pub version : List ℕ
   pub version_is : member text key.oci_version t ≡ holds version
-  pub edition : Contains editions version
+  pub edition : Contains (editions family) version
   pub seccomp : IsSeccomp t s
 
 -- the member under a key names the action a
-abbrev pub NamesAction : List ℕ → Data → Action → Type 0
-NamesAction k d a = (name : List ℕ) × (member text k d ≡ holds name) × (action_named name ≡ Some a)
+abbrev pub NamesAction : Family → List ℕ → Data → Action → Type 0
+NamesAction family k d a = (name : List ℕ) × (member text k d ≡ holds name) × (action_named family name ≡ Some a)
 
 -- the data that an action gets: the number under a key, which ERRNO and TRACE alone take, or 1
 pub data ErrnoMeans (k : List ℕ) (d : Data) (a : Action) : ℕ → Type 0 where
@@ -46,18 +47,38 @@ pub data ErrnoMeans (k : List ℕ) (d : Data) (a : Action) : ℕ → Type 0 wher
   given : (n : ℕ) → member whole k d ≡ holds n → takes_data a ≡ true → n ≤ 4095 → ErrnoMeans k d a n
 
 -- the verdict of the action under one key, with the data under another
-pub record VerdictMeans (action_key errno_key : List ℕ) (d : Data) (word : ℕ) : Type 0 where
+pub record VerdictMeans (family : Family) (action_key errno_key : List ℕ) (d : Data) (word : ℕ) : Type 0 where
   pub action : Action
-  pub action_is : NamesAction action_key d action
+  pub action_is : NamesAction family action_key d action
   pub errno : ℕ
   pub errno_is : ErrnoMeans errno_key d action errno
   pub verdict_is : word ≡ verdict_of action errno
 
--- no key is used that is refused
-pub record KeysMean (s : Data) : Type 0 where
+-- neither flags nor a listener are used
+pub record UsesNone (s : Data) : Type 0 where
   pub no_flags : or_default [] (member list key.flags s) ≡ Some []
   pub no_path : or_default [] (member text key.listener_path s) ≡ Some []
   pub no_metadata : or_default [] (member text key.listener_metadata s) ≡ Some []
+
+-- a text that names a flag
+abbrev pub NamesFlag : Data → Type 0
+NamesFlag d = (name : List ℕ) × (text d ≡ Some name) × Contains filter_flags name
+
+-- flags and a listener are named, and metadata only for a listener
+pub record NamesListener (s : Data) : Type 0 where
+  pub flags : List Data
+  pub flags_are : or_default [] (member list key.flags s) ≡ Some flags
+  pub named : All NamesFlag flags
+  pub path : List ℕ
+  pub path_is : or_default [] (member text key.listener_path s) ≡ Some path
+  pub metadata : List ℕ
+  pub metadata_is : or_default [] (member text key.listener_metadata s) ≡ Some metadata
+  pub for_listener : path ≡ [] → metadata ≡ []
+
+-- the keys of how a filter is loaded, which change no verdict: only machines of whole tables read them
+abbrev pub KeysMean : Family → Data → Type 0
+KeysMean Chosen s = UsesNone s
+KeysMean Whole s = NamesListener s
 
 -- a text that names the machine a of a family
 abbrev pub NamesArch : Family → Data → Arch → Type 0
@@ -103,7 +124,7 @@ pub record NamesMean (family : Family) (d : Data) (names : List (List ℕ)) : Ty
 pub record EntryMeans (family : Family) (d : Data) (e : EntryParts) : Type 0 where
   pub is_object : IsSome (object d)
   pub names : NamesMean family d e.names
-  pub verdict_is : VerdictMeans key.action key.errno_ret d e.word
+  pub verdict_is : VerdictMeans family key.action key.errno_ret d e.word
   pub args : ArgsMean d e.conds
 
 -- the entries, at most 256, in whole tables 1,024
@@ -115,7 +136,7 @@ pub record EntriesMean (family : Family) (s : Data) (entries : List EntryParts) 
 
 -- what the object under linux.seccomp says of machines and calls
 pub record CallsMean (s : Data) (native : Arch) (p : Policy) : Type 0 where
-  pub keys : KeysMean s
+  pub keys : KeysMean (family_of native) s
   pub archs : List Arch
   pub lists_archs : ListsArchs s native archs
   pub native_is : p.native ≡ native
@@ -135,6 +156,6 @@ pub record CallsMean (s : Data) (native : Arch) (p : Policy) : Type 0 where
 -- The bundle t, read for a native machine, means the profile p.
 pub record Means (t : Data) (native : Arch) (p : Policy) : Type 0 where
   pub seccomp : Data
-  pub root : RootMeans t seccomp
-  pub default_is : VerdictMeans key.default_action key.default_errno_ret seccomp p.default_word
+  pub root : RootMeans (family_of native) t seccomp
+  pub default_is : VerdictMeans (family_of native) key.default_action key.default_errno_ret seccomp p.default_word
   pub calls : CallsMean seccomp native p

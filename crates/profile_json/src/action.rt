@@ -1,5 +1,5 @@
 //! Actions, and the verdict of each.
-ghost use Rattle.std.specs.Prelude.{◌≡◌, ◌≤◌, IfOk};
+ghost use Rattle.std.specs.Prelude.{◌≡◌, ◌≤◌, ◌++◌, IfOk};
 ghost use Rattle.serde_json.specs.View.{view};
 ghost use Rattle.profile_json.specs.Lookup.{member, whole};
 ghost use Rattle.profile_json.specs.Names as spec;
@@ -10,6 +10,7 @@ use crate::fault::ProfileError;
 use crate::key::{self, ACTION, DEFAULT_ACTION, DEFAULT_ERRNO_RET, ERRNO_RET};
 use crate::lookup::{text_at, whole_if_there};
 use call_record::Word;
+use call_tables::Family;
 use serde_json::Value;
 
 /// What is done with a call.
@@ -22,12 +23,12 @@ pub enum Action {
     Trace,
     Log,
     Allow,
+    Notify,
 }
 
-/// The action of a name.
-#[tactic(auto, unfolding(crate::specs::Names::action_named))]
-pub(crate) fn action_named(name: &str) -> Option<Action>
-    ensures { result ≡ spec.action_named name.now }
+/// The action of a name that each family reads.
+fn common_action(name: &str) -> Option<Action>
+    ensures { result ≡ spec.named spec.actions name.now }
 {
     match name {
         key::KILL => Some(Action::KillThread),
@@ -38,6 +39,28 @@ pub(crate) fn action_named(name: &str) -> Option<Action>
         key::LOG => Some(Action::Log),
         key::ALLOW => Some(Action::Allow),
         _ => None,
+    }
+}
+
+/// The action of a name that whole tables read.
+fn whole_action(name: &str) -> Option<Action>
+    ensures { result ≡ spec.named (spec.actions ++ spec.more_actions) name.now }
+{
+    match name {
+        key::KILL_THREAD => Some(Action::KillThread),
+        key::NOTIFY => Some(Action::Notify),
+        _ => common_action(name),
+    }
+}
+
+/// The action of a name.
+#[tactic(auto, unfolding(crate::specs::Names::action_named))]
+fn action_named(name: &str, family: Family) -> Option<Action>
+    ensures { result ≡ spec.action_named family name.now }
+{
+    match family {
+        Family::Chosen => common_action(name),
+        Family::Whole => whole_action(name),
     }
 }
 
@@ -68,16 +91,17 @@ impl Action {
             Action::Trace => Word::TRACE.with_data(errno),
             Action::Log => Word::LOG,
             Action::Allow => Word::ALLOW,
+            Action::Notify => Word::USER_NOTIF,
         }
     }
 }
 
 #[tactic(auto, unfolding(crate::specs::inner::Reading::action_at))]
-fn action_at(value: &Value, key: &str) -> Result<Action, ProfileError>
-    ensures { Gives (λ a. a) result (read.action_at key.now (view value.now)) }
+fn action_at(value: &Value, key: &str, family: Family) -> Result<Action, ProfileError>
+    ensures { Gives (λ a. a) result (read.action_at family key.now (view value.now)) }
 {
     let name = text_at(value, key)?;
-    action_named(name).ok_or(ProfileError::UnknownAction)
+    action_named(name, family).ok_or(ProfileError::UnknownAction)
 }
 
 /// The data under a key, 1 where it is missing.
@@ -95,26 +119,31 @@ fn errno_at(value: &Value, key: &str, action: Action) -> Result<u16, ProfileErro
 
 /// The verdict of the action under one key, with the data under another.
 #[tactic(auto, unfolding(crate::specs::inner::Reading::verdict_at))]
-fn verdict_at(value: &Value, action_key: &str, errno_key: &str) -> Result<Word, ProfileError>
-    ensures { Gives (λ w. w) result (read.verdict_at action_key.now errno_key.now (view value.now)) }
+fn verdict_at(
+    value: &Value,
+    action_key: &str,
+    errno_key: &str,
+    family: Family,
+) -> Result<Word, ProfileError>
+    ensures { Gives (λ w. w) result (read.verdict_at family action_key.now errno_key.now (view value.now)) }
 {
-    let action = action_at(value, action_key)?;
+    let action = action_at(value, action_key, family)?;
     let errno = errno_at(value, errno_key, action)?;
     Ok(action.verdict(errno))
 }
 
 /// The verdict of calls that no rule matches.
 #[tactic(auto, unfolding(crate::specs::inner::Reading::default_of))]
-pub(crate) fn default_of(seccomp: &Value) -> Result<Word, ProfileError>
-    ensures { Gives (λ w. w) result (read.default_of (view seccomp.now)) }
+pub(crate) fn default_of(seccomp: &Value, family: Family) -> Result<Word, ProfileError>
+    ensures { Gives (λ w. w) result (read.default_of family (view seccomp.now)) }
 {
-    verdict_at(seccomp, DEFAULT_ACTION, DEFAULT_ERRNO_RET)
+    verdict_at(seccomp, DEFAULT_ACTION, DEFAULT_ERRNO_RET, family)
 }
 
 /// The verdict of an entry.
 #[tactic(auto, unfolding(crate::specs::inner::Reading::entry_verdict))]
-pub(crate) fn verdict_of(entry: &Value) -> Result<Word, ProfileError>
-    ensures { Gives (λ w. w) result (read.entry_verdict (view entry.now)) }
+pub(crate) fn verdict_of(entry: &Value, family: Family) -> Result<Word, ProfileError>
+    ensures { Gives (λ w. w) result (read.entry_verdict family (view entry.now)) }
 {
-    verdict_at(entry, ACTION, ERRNO_RET)
+    verdict_at(entry, ACTION, ERRNO_RET, family)
 }

@@ -17,7 +17,7 @@ use crate::contents::Contents;
 use crate::fault::ProfileError;
 use crate::machines::archs_of;
 use crate::overlaps::overlap_of;
-use crate::refused::refuse_keys;
+use crate::refused::check_keys;
 use crate::root::root_of;
 use crate::rules::{Rules, rules_of};
 use crate::syscalls::entries_of;
@@ -57,10 +57,11 @@ pub(crate) fn said_of<'a>(
     ensures reading { GivesWithMemory said_parts result (spec.said_of native (view seccomp.now)) }
     ensures native_listed { IfOk result (λ s. list_any (same_arch native) s.archs.items ≡ true) }
 {
-    let default_word = default_of(seccomp)?;
-    refuse_keys(seccomp)?;
+    let family = native.family();
+    let default_word = default_of(seccomp, family)?;
+    check_keys(seccomp, family)?;
     let archs = archs_of(alloc, seccomp, native)?;
-    let entries = entries_of(alloc, seccomp, native.family())?;
+    let entries = entries_of(alloc, seccomp, family)?;
     Ok(Contents {
         default_word,
         archs,
@@ -100,7 +101,7 @@ pub fn read_bundle(alloc: Global, text: &[u8], native: Arch) -> Result<Bundle, P
     ensures err { IfErr result (λ e. IfSome (fault_of e) (Breaks text.now native)) }
 {
     let value = value_of(alloc, text, native)?;
-    let seccomp = root_of(&value)?;
+    let seccomp = root_of(&value, native)?;
     let said = said_of(alloc, seccomp, native)?;
     let profile = profile_of(alloc, &said, native)?;
     Ok(Bundle { profile })

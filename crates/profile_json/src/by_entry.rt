@@ -39,7 +39,7 @@ pub fn rules_by_entry(alloc: Global, text: &[u8], native: Arch) -> Result<EntryR
     ensures err { IfErr result (λ e. IfSome (fault_of e) (Breaks text.now native)) }
 {
     let value = value_of(alloc, text, native)?;
-    let seccomp = root_of(&value)?;
+    let seccomp = root_of(&value, native)?;
     let said = said_of(alloc, seccomp, native)?;
     let machines = in_order(native.family(), &said.archs);
     let all = rules_of(alloc, &said.entries, machines.as_slice())?;

@@ -1,4 +1,4 @@
-//! The keys and names of a bundle (OCI Runtime Specification 1.0.2, config-linux, Seccomp).
+//! The keys and names of a bundle (OCI Runtime Specification 1.0.2 to 1.2.1, config-linux, Seccomp).
 
 pub const OCI_VERSION: &str = "ociVersion";
 
@@ -41,6 +41,10 @@ pub const VERSION_1_0_2: &str = "1.0.2";
 
 pub const VERSION_1_1_0: &str = "1.1.0";
 
+pub const VERSION_1_2_0: &str = "1.2.0";
+
+pub const VERSION_1_2_1: &str = "1.2.1";
+
 pub const KILL: &str = "SCMP_ACT_KILL";
 
 pub const KILL_PROCESS: &str = "SCMP_ACT_KILL_PROCESS";
@@ -54,6 +58,18 @@ pub const TRACE: &str = "SCMP_ACT_TRACE";
 pub const LOG: &str = "SCMP_ACT_LOG";
 
 pub const ALLOW: &str = "SCMP_ACT_ALLOW";
+
+pub const KILL_THREAD: &str = "SCMP_ACT_KILL_THREAD";
+
+pub const NOTIFY: &str = "SCMP_ACT_NOTIFY";
+
+pub const FLAG_TSYNC: &str = "SECCOMP_FILTER_FLAG_TSYNC";
+
+pub const FLAG_LOG: &str = "SECCOMP_FILTER_FLAG_LOG";
+
+pub const FLAG_SPEC_ALLOW: &str = "SECCOMP_FILTER_FLAG_SPEC_ALLOW";
+
+pub const FLAG_WAIT_KILLABLE_RECV: &str = "SECCOMP_FILTER_FLAG_WAIT_KILLABLE_RECV";
 
 pub const NE: &str = "SCMP_CMP_NE";
 

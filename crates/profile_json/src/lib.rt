@@ -1,4 +1,4 @@
-//! Reads the seccomp part of a bundle (OCI Runtime Specification 1.0.2 and 1.1.0, config-linux,
+//! Reads the seccomp part of a bundle (OCI Runtime Specification 1.0.2 to 1.2.1, config-linux,
 //! Seccomp) into a profile, or says why it refuses it.
 #![tactic(auto)]
 
@@ -24,4 +24,4 @@ pub use action::Action;
 pub use bundle::{Bundle, read_bundle};
 pub use by_entry::{EntryRules, rules_by_entry};
 pub use fault::ProfileError;
-pub use law::{meaning_is_kept, meaning_is_one, meaning_is_unbroken};
+pub use law::{meaning_is_kept, meaning_is_one, meaning_is_unbroken, meaning_is_widened};

@@ -88,7 +88,7 @@ fn entry_of<'a>(alloc: Global, value: &'a Value, family: Family) -> Result<Entry
 {
     let entry = object_of(value)?;
     let names = names_of(alloc, entry, family)?;
-    let word = verdict_of(entry)?;
+    let word = verdict_of(entry, family)?;
     let conds = args_of(entry)?;
     Ok(Entry { names, conds, word })
 }

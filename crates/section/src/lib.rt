@@ -1,7 +1,8 @@
 //! What stands in a file that is taken as a bundle: a bundle, the section that engines take as a profile, or an engine's own
-//! profile, from which it works sections out; and what stands in a bundle and is not read.
+//! profile, from which it works sections out; and what stands in a bundle and is not read, or is no part of its profile.
 #![tactic(auto)]
 
+mod beside;
 mod equal;
 mod kinds;
 mod reading;
@@ -9,6 +10,7 @@ mod remarks;
 mod unread;
 mod writing;
 
+pub use beside::beside_of;
 pub use kinds::{Kind, kind_of};
 pub use reading::{bundle_text, kind_of_text, put_in_bundle};
 pub use remarks::{line_of, remark_of};

@@ -71,8 +71,8 @@ fn shown_byte(byte: u8) -> u8
     if byte > 32 && byte < 127 { byte } else { b'?' }
 }
 
-// Adds a key, in visible characters.
-fn put_shown(lines: &mut Vec<u8>, key: &[u8]) -> Result<(), AllocError>
+/// Adds a key, in visible characters.
+pub(crate) fn put_shown(lines: &mut Vec<u8>, key: &[u8]) -> Result<(), AllocError>
     ensures { IfOk result (λ _. lines.new.items ≡ lines.old.items ++ spec.shown key.now) }
 {
     for byte in key {
@@ -169,8 +169,8 @@ fn members_of<'v, 'a>(value: &'v Value<'a>) -> &'v [(&'a str, Value<'a>)]
     }
 }
 
-// The members of a list.
-fn list_of<'v, 'a>(value: &'v Value<'a>) -> &'v [Value<'a>]
+/// The members of a list.
+pub(crate) fn list_of<'v, 'a>(value: &'v Value<'a>) -> &'v [Value<'a>]
     ensures { map value_view result.now ≡ members.list_of (value_view value.now) }
 {
     match value {

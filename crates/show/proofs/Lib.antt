@@ -1,2 +1,4 @@
 mod LineLaws
 mod EntryLaws
+mod Following
+mod Spanning

@@ -19,7 +19,7 @@ use Rattle.wording.specs.declared.told.Told.{Told}
 use Rattle.wording.specs.Phrases.{action_text, condition_text}
 use Rattle.wording.specs.Told.{TellsText}
 use Rattle.wording.specs.Understood.{IsReadAs}
-use Rattle.show.specs.Unread.{TellsUnread}
+use Rattle.show.specs.Unread.{TellsBeside, TellsUnread}
 
 -- the line of the machines
 abbrev pub machines_line : List Arch → List ℕ
@@ -91,11 +91,13 @@ pub record TellsEdition (native : Arch) (bundle : List ℕ) (told : Told) : Type
 abbrev pub IsRead : Arch → List ℕ → Told → Type 0
 IsRead native bundle told = TellsMeaning native bundle told ⊎ (TellsFault native bundle told ⊎ TellsEdition native bundle told)
 
--- behind this the lines are told of what stands in the bundle and is not read
+-- behind this the lines are told of flags and listener, and of what stands in the bundle and is not read
 pub record IsReadBehind (native : Arch) (bundle : List ℕ) (told : Told) : Type 0 where
   pub inner : Told
   pub is_read : IsRead native bundle inner
-  pub unread : TellsUnread native bundle inner told
+  pub middle : Told
+  pub beside : TellsBeside native bundle inner middle
+  pub unread : TellsUnread native bundle middle told
 
 -- so it is of a bundle of at most 1 MiB; of a longer one members that are not read are left out first
 abbrev pub IsReadOut : Arch → List ℕ → Told → Type 0

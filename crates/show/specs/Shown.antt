@@ -45,3 +45,7 @@ IsAnnotated filter told = IsShown [] filter told
 
 abbrev pub IsDrawn : List ℕ → Told → Type 0
 IsDrawn filter told = IsShown (codes "// ") filter told
+
+-- as what it costs
+abbrev pub IsCosted : List ℕ → Told → Type 0
+IsCosted filter told = IsShown [] filter told

@@ -1,8 +1,19 @@
--- What is told of a bundle, with what stands in it and is not read.
-use Rattle.std.specs.Prelude.{ℕ, ◌≡◌, ◌&&◌, ◌==◌, List, ◌++◌, length}
+-- What is told of a bundle, with what stands in it beside its profile, or is not read.
+use Rattle.std.specs.Prelude.{ℕ, ◌≡◌, ◌⊎◌, ◌&&◌, ◌==◌, true, false, List, ◌++◌, length}
 use Rattle.call_tables.specs.declared.arch.Arch.{Arch}
+use Rattle.section.specs.Beside.{AreBeside}
 use Rattle.section.specs.Unread.{AreUnread}
 use Rattle.wording.specs.declared.told.Told.{Told}
+
+-- if it was done, the lines of flags and listener stand behind what was told
+pub record AddsBeside (native : Arch) (bundle : List ℕ) (inner told : Told) : Type 0 where
+  pub lines : List ℕ
+  pub beside : AreBeside native bundle lines
+  pub bytes : told.bytes.items ≡ inner.bytes.items ++ lines
+  pub done : told.done ≡ true
+
+abbrev pub TellsBeside : Arch → List ℕ → Told → Told → Type 0
+TellsBeside native bundle inner told = ((inner.done ≡ false) × (told ≡ inner)) ⊎ ((inner.done ≡ true) × AddsBeside native bundle inner told)
 
 -- the lines of what is not read stand behind what was told
 pub record TellsUnread (native : Arch) (bundle : List ℕ) (inner told : Told) : Type 0 where

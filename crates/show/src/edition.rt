@@ -1,4 +1,5 @@
 //! The edition of a bundle.
+use call_tables::Family;
 use serde_json::Value;
 use std::alloc::{AllocError, Global};
 use std::fmt::Write;
@@ -25,18 +26,30 @@ pub(crate) const READ: &[&str] = &[
     "op",
 ];
 
+// Whether an edition is read.
+fn is_read(edition: &str, family: Family) -> bool {
+    match edition {
+        "1.0.2" | "1.1.0" => true,
+        "1.2.0" | "1.2.1" => match family {
+            Family::Chosen => false,
+            Family::Whole => true,
+        },
+        _ => false,
+    }
+}
+
 // Whether an edition is one of the first that is not read.
-fn is_near(edition: &str) -> bool {
-    edition.starts_with("1.") && edition != "1.0.2" && edition != "1.1.0"
+fn is_near(edition: &str, family: Family) -> bool {
+    edition.starts_with("1.") && !is_read(edition, family)
 }
 
 // Adds the line of an edition that is read as the first, if it is to be.
-fn put_edition(text: &mut String, value: &Value) -> Result<bool, AllocError> {
+fn put_edition(text: &mut String, family: Family, value: &Value) -> Result<bool, AllocError> {
     let edition = value
         .get("ociVersion")
         .and_then(Value::as_str)
         .unwrap_or("");
-    if !is_near(edition) {
+    if !is_near(edition, family) {
         return Ok(false);
     }
     writeln!(text, "edition {edition:?}, and read as 1.0.2")?;
@@ -55,6 +68,7 @@ fn with_first(alloc: Global, mut value: Value) -> Result<Vec<u8>, AllocError> {
 pub(crate) fn of_first_edition(
     alloc: Global,
     text: &mut String,
+    family: Family,
     bundle: &[u8],
 ) -> Result<Option<Vec<u8>>, AllocError> {
     let value = match Value::from_slice(alloc, bundle) {
@@ -66,7 +80,7 @@ pub(crate) fn of_first_edition(
             return Ok(None);
         }
     };
-    if !put_edition(text, &value)? {
+    if !put_edition(text, family, &value)? {
         return Ok(None);
     }
     let other = with_first(alloc, value)?;

@@ -1,21 +1,29 @@
-//! Bundles and filters described: what a bundle means or where it is wrong, and what the lines of a filter mean.
+//! Bundles and filters described: what a bundle means or where it is wrong, what the lines of a filter mean, and what it costs a call.
 #![tactic(auto)]
 
 mod annotating;
+mod answered;
+mod costing;
 mod drawing;
 mod edition;
 mod entries;
 mod flow;
 mod json_text;
+mod known;
+mod leading;
 mod lines;
 mod near;
 mod place;
 mod reading;
 mod search;
+mod spans;
 mod unread;
 
 pub use annotating::annotated;
+pub use answered::{answered_calls_are_allowed, is_answered};
+pub use costing::costs;
 pub use drawing::drawn;
 pub use json_text::{Doubled, Trimmed, fault_of, without_unread};
 pub use reading::{Configuration, fault_in, read_out};
+pub use spans::{Span, span_of};
 pub use unread::{refusing_unread, with_unread};

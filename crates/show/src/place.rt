@@ -154,8 +154,8 @@ pub(crate) const ROOT: &[Key] = &[Key {
     needed: true,
 }];
 
-/// The keys of `linux.seccomp` up to its machines.
-pub(crate) const SECCOMP: &[Key] = &[
+/// The keys of `linux.seccomp` up to its flags.
+pub(crate) const HEAD: &[Key] = &[
     Key {
         name: "defaultAction",
         shape: Shape::Text,
@@ -171,6 +171,10 @@ pub(crate) const SECCOMP: &[Key] = &[
         shape: Shape::List,
         needed: false,
     },
+];
+
+/// Those behind its flags, up to its machines.
+pub(crate) const LISTENER: &[Key] = &[
     Key {
         name: "listenerPath",
         shape: Shape::Text,

@@ -15,7 +15,7 @@ use crate::json_text::{Trimmed, fault_of, without_unread};
 use crate::near::put_nearest;
 use crate::place::{Place, shape_of};
 use crate::search::{Found, Wanted, find, find_in_config};
-use crate::unread::with_unread;
+use crate::unread::{with_beside, with_unread};
 use call_tables::{Arch, Family};
 use profile::Profile;
 use profile_json::{EntryRules, ProfileError, read_bundle, rules_by_entry};
@@ -28,6 +28,22 @@ use wording::{Told, refused_profile};
 fn put_unknown(text: &mut String, found: &Found<'_>, what: &str) -> Result<(), AllocError> {
     let name = found.value.and_then(Value::as_str).unwrap_or("");
     write!(text, "{name:?} is no {what}")
+}
+
+// Adds that a flag is none, or that a key is not supported.
+fn put_unsupported(text: &mut String, found: &Found<'_>) -> Result<(), AllocError> {
+    if found.place.list == "flags" {
+        return put_unknown(text, found, "flag that is known");
+    }
+    text.push_str("a key that is not supported")
+}
+
+// What an edition is not that is not read.
+fn editions(family: Family) -> &'static str {
+    match family {
+        Family::Chosen => "edition that is read: 1.0.2, 1.1.0",
+        Family::Whole => "edition that is read: 1.0.2, 1.1.0, 1.2.0, 1.2.1",
+    }
 }
 
 // Adds what is wrong at the place of a fault.
@@ -46,7 +62,7 @@ fn put_why(
         }
         ProfileError::MissingKey => write!(text, "missing, where {asked} is asked for"),
         ProfileError::NoSeccomp => write!(text, "missing, where {asked} is asked for"),
-        ProfileError::Version => put_unknown(text, found, "edition that is read: 1.0.2, 1.1.0"),
+        ProfileError::Version => put_unknown(text, found, editions(family)),
         ProfileError::UnknownAction => put_unknown(text, found, "action that is known"),
         ProfileError::UnknownArch => put_unknown(text, found, "architecture that is known"),
         ProfileError::UnknownOp => put_unknown(text, found, "operator that is known"),
@@ -61,7 +77,7 @@ fn put_why(
         ProfileError::BadIndex => text.push_str("above 5"),
         ProfileError::RepeatedIndex => text.push_str("an argument that an earlier member names"),
         ProfileError::StrayDatum => text.push_str("a bit that is not in value"),
-        ProfileError::UnsupportedKey => text.push_str("a key that is not supported"),
+        ProfileError::UnsupportedKey => put_unsupported(text, found),
         _ => text.push_str("too many"),
     }
 }
@@ -274,7 +290,7 @@ fn not_done(told: Told) -> Told
 // it is refused.
 fn read_trimmed(alloc: Global, native: Arch, bundle: &[u8]) -> Result<Told, AllocError> {
     let mut text = String::new(alloc);
-    match of_first_edition(alloc, &mut text, bundle)? {
+    match of_first_edition(alloc, &mut text, native.family(), bundle)? {
         Some(other) => {
             let told = read_behind(text, alloc, native, &other)?;
             Ok(not_done(told))
@@ -334,11 +350,12 @@ fn read_text(alloc: Global, native: Arch, bundle: &[u8]) -> Result<Told, AllocEr
 }
 
 /// Tells what a bundle, which is read for a native machine, means: its machines, what is said of calls that no entry
-/// matches, and a line for each entry. Of a bundle that is refused, why, and the place of the fault. Behind it stands a line for
-/// each member that is not read.
+/// matches, a line for each entry, and the flags and the listener. Of a bundle that is refused, why, and the place of the fault. Behind it
+/// stands a line for each member that is not read.
 pub fn read_out(alloc: Global, native: Arch, bundle: &[u8]) -> Result<Told, AllocError>
     ensures { IfOk result (spec.IsReadOut native bundle.now) }
 {
-    let told = read_text(alloc, native, bundle)?;
+    let meaning = read_text(alloc, native, bundle)?;
+    let told = with_beside(alloc, native, bundle, meaning)?;
     with_unread(alloc, native, bundle, told)
 }

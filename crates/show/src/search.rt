@@ -1,5 +1,6 @@
 //! The place where a bundle has a fault: the first in the order in which a bundle is read.
-use crate::place::{ARG, ENTRY, Key, NAMES, Place, ROOT, SECCOMP, SYSCALLS, Shape};
+use crate::known::{FLAGS, OPERATORS, TAKING_DATA, is_action, is_one_of, reads_more};
+use crate::place::{ARG, ENTRY, HEAD, Key, LISTENER, NAMES, Place, ROOT, SYSCALLS, Shape};
 use call_tables::Family;
 use serde_json::Value;
 
@@ -33,37 +34,6 @@ fn member_at<'a>(wanted: Wanted, object: &'a Value, key: &str) -> Option<&'a Val
 fn misses(wanted: Wanted, key: Key) -> bool {
     let is_mended = wanted.is_config && (key.name == "ociVersion" || key.name == "names");
     wanted.number == 5 && key.needed && !is_mended
-}
-
-// Whether an action is known: in a configuration also the newer name of one.
-fn is_action(wanted: Wanted, name: &str) -> bool {
-    is_one_of(ACTIONS, name) || (wanted.is_config && name == "SCMP_ACT_KILL_THREAD")
-}
-
-const ACTIONS: &[&str] = &[
-    "SCMP_ACT_KILL",
-    "SCMP_ACT_KILL_PROCESS",
-    "SCMP_ACT_TRAP",
-    "SCMP_ACT_ERRNO",
-    "SCMP_ACT_TRACE",
-    "SCMP_ACT_LOG",
-    "SCMP_ACT_ALLOW",
-];
-
-const TAKING_DATA: &[&str] = &["SCMP_ACT_ERRNO", "SCMP_ACT_TRACE"];
-
-const OPERATORS: &[&str] = &[
-    "SCMP_CMP_NE",
-    "SCMP_CMP_LT",
-    "SCMP_CMP_LE",
-    "SCMP_CMP_EQ",
-    "SCMP_CMP_GE",
-    "SCMP_CMP_GT",
-    "SCMP_CMP_MASKED_EQ",
-];
-
-fn is_one_of(names: &[&str], name: &str) -> bool {
-    names.iter().any(|other| *other == name)
 }
 
 // The text under a key, empty where there is none.
@@ -103,6 +73,17 @@ fn has_stray_bit(object: &Value) -> bool {
     text_at(object, "op") == "SCMP_CMP_MASKED_EQ" && second & whole_at(object, "value") != second
 }
 
+// Whether a key is used that is not supported: of the machines of whole tables metadata without a listener.
+fn is_unsupported(family: Family, key: &str, object: &Value, value: &Value) -> bool {
+    if is_empty(value) {
+        return false;
+    }
+    match family {
+        Family::Chosen => true,
+        Family::Whole => key == "listenerMetadata" && text_at(object, "listenerPath") == "",
+    }
+}
+
 // Whether what stands under a key of an object breaks the rule of the key that the fault names.
 fn breaks_rule(wanted: Wanted, key: &str, object: &Value, value: &Value) -> bool {
     let number = wanted.number;
@@ -110,13 +91,16 @@ fn breaks_rule(wanted: Wanted, key: &str, object: &Value, value: &Value) -> bool
     let whole = value.as_u64().unwrap_or(0);
     match key {
         "ociVersion" => number == 2,
-        "defaultAction" | "action" => number == 6 && !is_action(wanted, text),
+        "defaultAction" | "action" => number == 6
+            && !is_action(wanted.family, wanted.is_config, text),
         "defaultErrnoRet" | "errnoRet" => match number {
             11 => !takes_data(object),
             12 => whole > 4095,
             _ => false,
         },
-        "flags" | "listenerPath" | "listenerMetadata" => number == 18 && !is_empty(value),
+        "flags" | "listenerPath" | "listenerMetadata" => {
+            number == 18 && is_unsupported(wanted.family, key, object, value)
+        }
         "architectures" => number == 8,
         "index" => number == 14 && whole > 5,
         "valueTwo" => number == 16 && has_stray_bit(object),
@@ -172,12 +156,13 @@ fn is_machine(family: Family, name: &str) -> bool {
     family.machines().iter().any(|arch| arch.scmp() == name)
 }
 
-// Whether the fault stands at a member of a list of texts: names of machines, or of calls.
+// Whether the fault stands at a member of a list of texts: flags, names of machines, or of calls.
 fn stands_in(wanted: Wanted, list: &str, value: &Value) -> bool {
     let Some(text) = value.as_str() else {
         return wanted.number == 4;
     };
     match (wanted.number, list) {
+        (18, "flags") => !is_one_of(FLAGS, text),
         (7, "architectures") => !is_machine(wanted.family, text),
         (9, "names") => !is_known(wanted.family, text),
         _ => false,
@@ -296,10 +281,33 @@ fn at_entries<'a>(wanted: Wanted, place: Place, entries: &'a [Value]) -> Option<
     None
 }
 
+// The first flag of a section at which the fault stands, where flags are read: those of a configuration are left out.
+fn at_flags<'a>(wanted: Wanted, place: Place, seccomp: &'a Value) -> Option<Found<'a>> {
+    if wanted.is_config || !reads_more(wanted.family) {
+        return None;
+    }
+    let flags = Place {
+        list: "flags",
+        ..place
+    };
+    at_texts(wanted, flags, list_at(seccomp, "flags"))
+}
+
+// The first place in a section above its machines at which the fault stands.
+fn at_head<'a>(wanted: Wanted, place: Place, seccomp: &'a Value) -> Option<Found<'a>> {
+    if let Some(found) = at_keys(wanted, HEAD, place, seccomp) {
+        return Some(found);
+    }
+    if let Some(found) = at_flags(wanted, place, seccomp) {
+        return Some(found);
+    }
+    at_keys(wanted, LISTENER, place, seccomp)
+}
+
 // The first place in a section at which the fault stands. The section stands at the place `top`.
 fn at_seccomp<'a>(wanted: Wanted, top: &'static str, seccomp: &'a Value) -> Option<Found<'a>> {
     let place = Place::top(top);
-    if let Some(found) = at_keys(wanted, SECCOMP, place, seccomp) {
+    if let Some(found) = at_head(wanted, place, seccomp) {
         return Some(found);
     }
     let machines = Place {

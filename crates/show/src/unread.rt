@@ -1,9 +1,9 @@
-//! What is told of a bundle, with what stands in it and is not read.
+//! What is told of a bundle, with what stands in it beside its profile, or is not read.
 ghost use Rattle.std.specs.Prelude.{◌≡◌, ◌&&◌, ◌++◌, ◌==◌, IfOk, length};
-ghost use Rattle.show.specs.Unread.{RefusesUnread, TellsUnread};
+ghost use Rattle.show.specs.Unread.{RefusesUnread, TellsBeside, TellsUnread};
 
 use call_tables::Arch;
-use section::unread_of;
+use section::{beside_of, unread_of};
 use std::alloc::{AllocError, Global};
 use wording::Told;
 
@@ -28,6 +28,22 @@ fn done_without_lines(told: Told, lines: &[u8]) -> Result<Told, AllocError>
         bytes,
         done: done && lines.is_empty(),
     })
+}
+
+/// What was told of a bundle, and behind it, if it was done, the lines of its flags and its listener.
+pub(crate) fn with_beside(
+    alloc: Global,
+    native: Arch,
+    bundle: &[u8],
+    told: Told,
+) -> Result<Told, AllocError>
+    ensures { IfOk result (TellsBeside native bundle.now told) }
+{
+    if !told.done {
+        return Ok(told);
+    }
+    let lines = beside_of(alloc, native, bundle)?;
+    with_lines(told, &lines)
 }
 
 /// What was told of a bundle, and behind it a line for each member of its section that is not read, and for each key that stands

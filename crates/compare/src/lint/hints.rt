@@ -1,8 +1,9 @@
 //! Whether `lint` is worth asking about a bundle.
-ghost use Rattle.std.specs.Prelude.{◌≡◌, true, IfOk};
+ghost use Rattle.std.specs.Prelude.{◌≡◌, ◌≢◌, true, false, IfOk};
 ghost use Rattle.call_tables.specs.declared.arch.Family.{Family as TheFamily};
 ghost use Rattle.profile.specs.Policy.{Policy};
-ghost use Rattle.compare.specs.Linted as spec;
+ghost use Rattle.profile_json.specs.declared.fault.ProfileError.TheVariants.{OutOfMemory};
+ghost use Rattle.compare.specs.Hints.{IsUnhinted, IsUnpassed, SomeGetPast};
 ghost use Rattle.compare.specs.Past.{IsFinding};
 ghost use Rattle.unread_bits.specs.Past.{GetsPast};
 ghost use Rattle.unread_bits.specs.declared.past.Past.{Past as ThePast};
@@ -12,15 +13,16 @@ use crate::lint::decided::finding;
 use crate::lint::past::Finding;
 use call_tables::Arch;
 use profile::Profile;
-use profile_json::read_bundle;
+use profile_json::{ProfileError, read_bundle};
 use std::alloc::{AllocError, Global};
 
-/// Of a longer text nothing is told, since it would be read twice.
+// A longer text gets no hint, since it would be read twice.
 const MOST_BYTES: usize = 1 << 20;
 
 // Whether some call gets past.
 fn is_some(found: &Finding) -> bool
-    ensures { (family : TheFamily) (p : Policy) → IsFinding family p found.now → result ≡ true → (past : ThePast) × GetsPast p past }
+    ensures passed { (family : TheFamily) (p : Policy) → IsFinding family p found.now → result ≡ true → (past : ThePast) × GetsPast p past }
+    ensures unpassed { (family : TheFamily) (p : Policy) → IsFinding family p found.now → result ≡ false → IsUnpassed p }
 {
     match found {
         Finding::Nothing => false,
@@ -37,21 +39,37 @@ fn is_passed(
     profile: &Profile,
 ) -> Result<bool, AllocError>
     requires { IsBundle native bundle.now profile.now }
-    ensures { IfOk result (λ told. told ≡ true → spec.SomeGetPast native bundle.now) }
+    ensures hinted { IfOk result (λ told. told ≡ true → SomeGetPast native bundle.now) }
+    ensures unhinted { IfOk result (λ told. told ≡ false → IsUnhinted native bundle.now) }
 {
     let found = finding(alloc, native.family(), profile)?;
     Ok(is_some(&found))
 }
 
-/// Whether some call gets past a bundle, as far as it is decided.
+// A bundle that is refused gets no hint. Want of memory is no refusal, and an error here.
+fn refused(error: ProfileError) -> Result<bool, AllocError>
+    ensures unhinted { IfOk result (λ told. told ≡ false) }
+    ensures fault { IfOk result (λ told. error ≢ OutOfMemory) }
+{
+    if let ProfileError::OutOfMemory = error {
+        return Err(AllocError);
+    }
+    Ok(false)
+}
+
+/// Whether some call gets past a bundle of at most a mebibyte, as far as it is decided.
 pub fn hint(alloc: Global, native: Arch, bundle: &[u8]) -> Result<bool, AllocError>
-    ensures { IfOk result (λ told. told ≡ true → spec.SomeGetPast native bundle.now) }
+    // If so, some call does.
+    ensures hinted { IfOk result (λ told. told ≡ true → SomeGetPast native bundle.now) }
+
+    // If not, the bundle is longer, it is refused, nothing gets past it, or of some call it is not decided.
+    ensures unhinted { IfOk result (λ told. told ≡ false → IsUnhinted native bundle.now) }
 {
     if bundle.len() > MOST_BYTES {
         return Ok(false);
     }
     match read_bundle(alloc, bundle, native) {
         Ok(read) => is_passed(alloc, native, bundle, &read.profile),
-        Err(_) => Ok(false),
+        Err(error) => refused(error),
     }
 }

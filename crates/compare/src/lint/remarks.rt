@@ -1,6 +1,6 @@
 //! What else in a bundle says less than it seems to. None of it changes what is decided.
 use crate::lint::pairs::put_pairs;
-use call_record::lets_through;
+use call_record::{Word, lets_through};
 use profile::{Cond, Op, Profile, Rule};
 use profile_json::EntryRules;
 use std::alloc::{AllocError, Global};
@@ -130,6 +130,30 @@ fn put_default(text: &mut Text, profile: &Profile, all: &EntryRules, at: usize, 
     }
 }
 
+// Adds that a listener is asked about all other calls, which runc refuses to set up.
+fn put_notified_default(text: &mut Text, profile: &Profile) {
+    if profile.default_word() == Word::USER_NOTIF {
+        text.put(
+            "remark: linux.seccomp.defaultAction: runc starts no container with SCMP_ACT_NOTIFY here\n",
+        );
+    }
+}
+
+// Adds that a listener is asked about write, which runc refuses to set up.
+fn put_notified(text: &mut Text, all: &EntryRules, at: usize, rule: &Rule) {
+    if rule.word != Word::USER_NOTIF || rule.arch.name(rule.nr) != Some("write") {
+        return;
+    }
+    if is_again(all, at, rule) {
+        return;
+    }
+    if let Some(entry) = all.entry_of(at) {
+        text.put(format_args!(
+            "remark: linux.seccomp.syscalls[{entry}]: write: runc starts no container with SCMP_ACT_NOTIFY here\n"
+        ));
+    }
+}
+
 // Adds how many rules refuse calls that others would carry out alike.
 fn put_strict(text: &mut Text, profile: &Profile) {
     let count = profile
@@ -149,8 +173,10 @@ fn put_strict(text: &mut Text, profile: &Profile) {
 fn put_remarks(text: &mut Text, profile: &Profile, all: &EntryRules) {
     put_strict(text, profile);
     put_pairs(text, profile, all);
+    put_notified_default(text, profile);
     for (at, rule) in all.rules.iter().enumerate() {
         put_default(text, profile, all, at, rule);
+        put_notified(text, all, at, rule);
         if !rule.conds.as_slice().is_empty() {
             put_rule(text, all, at, rule);
         }

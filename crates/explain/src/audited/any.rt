@@ -1,13 +1,13 @@
 //! What a bundle says of a call whatever its arguments.
-ghost use Rattle.std.specs.Prelude.{◌≡◌, IfErr, IfOk, IfSome, codes, string_bytes};
+ghost use Rattle.std.specs.Prelude.{◌≡◌, IfErr, IfOk, IfSome, string_bytes};
 ghost use Rattle.call_tables.specs.Arch.{family_of};
 ghost use Rattle.explain.specs.Any as spec;
-ghost use Rattle.wording.specs.Told.{TellsLine};
 ghost use Rattle.profile_json.specs.Breaks.{Breaks};
 ghost use Rattle.profile_json.specs.Fault.{fault_of};
 
 use crate::audited::lines::{put_number, put_said};
 use crate::audited::what::what_call;
+use crate::refused::refused_word;
 use call_tables::{Arch, Family};
 use profile::Profile;
 use profile_json::{EntryRules, ProfileError, read_bundle, rules_by_entry};
@@ -49,16 +49,6 @@ fn explanation(
     Ok(text)
 }
 
-// The line that tells that a word asks for no call.
-fn no_call(alloc: Global) -> Result<Told, AllocError>
-    ensures { IfOk result (TellsLine (codes "refused call")) }
-{
-    Ok(Told {
-        bytes: Vec::from_slice(alloc, b"refused call\n")?,
-        done: false,
-    })
-}
-
 /// Tells what a bundle, which is read for a native machine, says of a call whatever its arguments: each entry that has a rule for
 /// it, with its conditions, and the default.
 pub fn explain_any(
@@ -77,6 +67,6 @@ pub fn explain_any(
             }),
             Err(error) => refused_profile(alloc, error),
         },
-        None => no_call(alloc),
+        None => refused_word(alloc, native, word),
     }
 }

@@ -1,14 +1,17 @@
 -- Actions: what reading gives is meant, and what it refuses is broken.
-use Rattle.std.proofs.Common.{◌≡◌, ℕ, ◌≤◌, ◌<◌, List, Bool, cond, nat_le, Ok, Err, Some, None, true, false, ◌⊎◌, inl, inr, refl, sym, ◌∙◌}
+use Rattle.std.proofs.Common.{◌≡◌, ℕ, ◌≤◌, ◌<◌, List, [], ◌∷◌, ◌++◌, Bool, Option, cond, nat_le, Ok, Err, Some, None, true, false, ◌⊎◌, inl, inr, refl, sym, ◌∙◌}
 use Rattle.std.proofs.Common.{ap, subst, arith}
 use Rattle.std.specs.Option.{ok_or}
+use Rattle.std.specs.Str.{bytes_eq}
 use Rattle.std.proofs.lemmas.Bool.{leb-true, leb-false}
 use Rattle.std.proofs.lemmas.Option.{same_Some}
 use Rattle.serde_json.specs.Data.{Data}
+use Rattle.call_tables.specs.declared.arch.Family.{Family}
+use Rattle.call_tables.specs.declared.arch.Family.TheVariants.{Chosen, Whole}
 use Rattle.profile_json.specs.declared.action.Action.{Action}
 use Rattle.profile_json.specs.Fault.{Fault, wrong_type, missing_key, unknown_action, errno_not_taken, errno_range}
 use Rattle.profile_json.specs.Lookup.{Member, missing, other_type, holds, member, text, whole}
-use Rattle.profile_json.specs.Names.{action_named, takes_data, verdict_of}
+use Rattle.profile_json.specs.Names.{named, actions, more_actions, action_named, takes_data, verdict_of}
 use Rattle.profile_json.specs.inner.Outcome.{◌>>=◌}
 use Rattle.profile_json.specs.inner.Reading.{needed, action_at, errno_in, verdict_at}
 use Rattle.profile_json.specs.Meaning.{NamesAction, ErrnoMeans, none, given, VerdictMeans}
@@ -16,32 +19,32 @@ use Rattle.profile_json.specs.Breaks.{ActionBreaks, action_text, action_unknown,
 use Rattle.profile_json.proofs.reading.Steps.{bind_ok, bind_err, ok_or_ok, ok_or_err, needed_ok, needed_breaks, needed_unbroken}
 use Rattle.profile_json.proofs.reading.Steps.{holds_same, ok_same, not_ok, true_false}
 
-pub action_means : (k : List ℕ) (d : Data) (a : Action) → action_at k d ≡ Ok a → NamesAction k d a
+pub action_means : (family : Family) (k : List ℕ) (d : Data) (a : Action) → action_at family k d ≡ Ok a → NamesAction family k d a
 unfolding action_at
-action_means k d a h =
-    let step = bind_ok (needed missing_key (member text k d)) (λ name. ok_or (action_named name) unknown_action) a h in
-    (step.0, needed_ok missing_key (member text k d) step.0 step.1, ok_or_ok (action_named step.0) unknown_action a step.2)
+action_means family k d a h =
+    let step = bind_ok (needed missing_key (member text k d)) (λ name. ok_or (action_named family name) unknown_action) a h in
+    (step.0, needed_ok missing_key (member text k d) step.0 step.1, ok_or_ok (action_named family step.0) unknown_action a step.2)
 
-pub action_breaks : (k : List ℕ) (d : Data) (f : Fault) → action_at k d ≡ Err f → ActionBreaks k d f
+pub action_breaks : (family : Family) (k : List ℕ) (d : Data) (f : Fault) → action_at family k d ≡ Err f → ActionBreaks family k d f
 unfolding action_at
-action_breaks k d f h =
-    elim (bind_err (needed missing_key (member text k d)) (λ name. ok_or (action_named name) unknown_action) f h) [
+action_breaks family k d f h =
+    elim (bind_err (needed missing_key (member text k d)) (λ name. ok_or (action_named family name) unknown_action) f h) [
       | inl bad ↦ action_text f (needed_breaks (member text k d) f bad)
       | inr step ↦
-          let at = ok_or_err (action_named step.0) unknown_action f step.2 in
-          subst (ActionBreaks k d) at.1 (action_unknown step.0 (needed_ok missing_key (member text k d) step.0 step.1) at.0)
+          let at = ok_or_err (action_named family step.0) unknown_action f step.2 in
+          subst (ActionBreaks family k d) at.1 (action_unknown step.0 (needed_ok missing_key (member text k d) step.0 step.1) at.0)
     ]
 
-pub action_unbroken : (k : List ℕ) (d : Data) (a : Action) (f : Fault) → NamesAction k d a → ActionBreaks k d f → ⊥
-action_unbroken k d a _ m (action_text f e) = needed_unbroken (member text k d) m.0 f m.1 e
-action_unbroken k d a _ m (action_unknown name at e) =
+pub action_unbroken : (family : Family) (k : List ℕ) (d : Data) (a : Action) (f : Fault) → NamesAction family k d a → ActionBreaks family k d f → ⊥
+action_unbroken family k d a _ m (action_text f e) = needed_unbroken (member text k d) m.0 f m.1 e
+action_unbroken family k d a _ m (action_unknown name at e) =
     let same : m.0 ≡ name = holds_same m.0 name (sym m.1 ∙ at) in
-    let both : Some a ≡ None = sym m.2 ∙ ap action_named same ∙ e in cc
+    let both : Some a ≡ None = sym m.2 ∙ ap (action_named family) same ∙ e in cc
 
-pub one_action : (k : List ℕ) (d : Data) (a b : Action) → NamesAction k d a → NamesAction k d b → a ≡ b
-one_action k d a b x y =
+pub one_action : (family : Family) (k : List ℕ) (d : Data) (a b : Action) → NamesAction family k d a → NamesAction family k d b → a ≡ b
+one_action family k d a b x y =
     let same : x.0 ≡ y.0 = holds_same x.0 y.0 (sym x.1 ∙ y.1) in
-    same_Some a b (sym x.2 ∙ ap action_named same ∙ y.2)
+    same_Some a b (sym x.2 ∙ ap (action_named family) same ∙ y.2)
 
 -- ---- the data of an action
 
@@ -83,33 +86,33 @@ errno_of_member : (k : List ℕ) (d : Data) (a : Action) (n : ℕ) → Errno a (
 errno_of_member k d a _ (no_member e) = none e
 errno_of_member k d a _ (member_is n e t l) = given n e t l
 
-pub verdict_means : (ak ek : List ℕ) (d : Data) (w : ℕ) → verdict_at ak ek d ≡ Ok w → VerdictMeans ak ek d w
+pub verdict_means : (family : Family) (ak ek : List ℕ) (d : Data) (w : ℕ) → verdict_at family ak ek d ≡ Ok w → VerdictMeans family ak ek d w
 unfolding verdict_at
-verdict_means ak ek d w h =
+verdict_means family ak ek d w h =
     let m = member whole ek d in
-    let at_a = bind_ok (action_at ak d) (λ a. errno_in a m >>= (λ n. Ok (verdict_of a n))) w h in
+    let at_a = bind_ok (action_at family ak d) (λ a. errno_in a m >>= (λ n. Ok (verdict_of a n))) w h in
     let at_n = bind_ok (errno_in at_a.0 m) (λ n. Ok (verdict_of at_a.0 n)) w at_a.2 in
     record {
       action = at_a.0;
-      action_is = action_means ak d at_a.0 at_a.1;
+      action_is = action_means family ak d at_a.0 at_a.1;
       errno = at_n.0;
       errno_is = errno_of_member ek d at_a.0 at_n.0 (errno_ok at_a.0 m at_n.0 at_n.1);
       verdict_is = sym (ok_same (verdict_of at_a.0 at_n.0) w at_n.2);
     }
 
-pub verdict_breaks : (ak ek : List ℕ) (d : Data) (f : Fault) → verdict_at ak ek d ≡ Err f → VerdictBreaks ak ek d f
+pub verdict_breaks : (family : Family) (ak ek : List ℕ) (d : Data) (f : Fault) → verdict_at family ak ek d ≡ Err f → VerdictBreaks family ak ek d f
 unfolding verdict_at
-verdict_breaks ak ek d f h =
+verdict_breaks family ak ek d f h =
     let m = member whole ek d in
-    elim (bind_err (action_at ak d) (λ a. errno_in a m >>= (λ n. Ok (verdict_of a n))) f h) [
-      | inl bad ↦ action f (action_breaks ak d f bad)
+    elim (bind_err (action_at family ak d) (λ a. errno_in a m >>= (λ n. Ok (verdict_of a n))) f h) [
+      | inl bad ↦ action f (action_breaks family ak d f bad)
       | inr at_a ↦ elim (bind_err (errno_in at_a.0 m) (λ n. Ok (verdict_of at_a.0 n)) f at_a.2) [
         | inr at_n ↦ absurd (not_ok (verdict_of at_a.0 at_n.0) f at_n.2)
         | inl bad ↦ elim (errno_err at_a.0 m f bad) [
-          | inl at ↦ subst (VerdictBreaks ak ek d) at.1 (errno_other at.0)
+          | inl at ↦ subst (VerdictBreaks family ak ek d) at.1 (errno_other at.0)
           | inr at ↦ elim at.2 [
-            | inl without ↦ subst (VerdictBreaks ak ek d) without.1 (not_taken at_a.0 at.0 (action_means ak d at_a.0 at_a.1) without.0 at.1)
-            | inr big ↦ subst (VerdictBreaks ak ek d) big.1 (large at.0 at.1 big.0)
+            | inl without ↦ subst (VerdictBreaks family ak ek d) without.1 (not_taken at_a.0 at.0 (action_means family ak d at_a.0 at_a.1) without.0 at.1)
+            | inr big ↦ subst (VerdictBreaks family ak ek d) big.1 (large at.0 at.1 big.0)
           ]
         ]
       ]
@@ -124,13 +127,13 @@ given_is : (k : List ℕ) (d : Data) (a : Action) (n x : ℕ) → ErrnoMeans k d
 given_is k d a _ x (none e) h = let both : ◌≡◌ {A = Member ℕ} missing (holds x) = sym e ∙ h in cc
 given_is k d a _ x (given n e t l) h = let same : n ≡ x = holds_same n x (sym e ∙ h) in (t, subst (λ y. y ≤ 4095) same l, same)
 
-pub verdict_unbroken : (ak ek : List ℕ) (d : Data) (w : ℕ) (f : Fault) → VerdictMeans ak ek d w → VerdictBreaks ak ek d f → ⊥
-verdict_unbroken ak ek d w f m (action _ bad) = action_unbroken ak d m.action f m.action_is bad
-verdict_unbroken ak ek d w _ m (errno_other e) = other_no ek d m.action m.errno m.errno_is e
-verdict_unbroken ak ek d w _ m (not_taken b x y t e) =
-    let same : m.action ≡ b = one_action ak d m.action b m.action_is y in
+pub verdict_unbroken : (family : Family) (ak ek : List ℕ) (d : Data) (w : ℕ) (f : Fault) → VerdictMeans family ak ek d w → VerdictBreaks family ak ek d f → ⊥
+verdict_unbroken family ak ek d w f m (action _ bad) = action_unbroken family ak d m.action f m.action_is bad
+verdict_unbroken family ak ek d w _ m (errno_other e) = other_no ek d m.action m.errno m.errno_is e
+verdict_unbroken family ak ek d w _ m (not_taken b x y t e) =
+    let same : m.action ≡ b = one_action family ak d m.action b m.action_is y in
     true_false (takes_data m.action) (given_is ek d m.action m.errno x m.errno_is e).0 (ap takes_data same ∙ t)
-verdict_unbroken ak ek d w _ m (large x e l) = let le = (given_is ek d m.action m.errno x m.errno_is e).1 in omega (arith, le, l)
+verdict_unbroken family ak ek d w _ m (large x e l) = let le = (given_is ek d m.action m.errno x m.errno_is e).1 in omega (arith, le, l)
 
 -- ---- one verdict
 
@@ -142,8 +145,35 @@ one_errno : (k : List ℕ) (d : Data) (a b : Action) (n x : ℕ) → ErrnoMeans 
 one_errno k d a b n _ m (none e) = errno_missing k d a n m e
 one_errno k d a b n _ m (given x e t l) = (given_is k d a n x m e).2
 
-pub one_verdict : (ak ek : List ℕ) (d : Data) (v w : ℕ) → VerdictMeans ak ek d v → VerdictMeans ak ek d w → v ≡ w
-one_verdict ak ek d v w m n =
-    let actions : m.action ≡ n.action = one_action ak d m.action n.action m.action_is n.action_is in
+pub one_verdict : (family : Family) (ak ek : List ℕ) (d : Data) (v w : ℕ) → VerdictMeans family ak ek d v → VerdictMeans family ak ek d w → v ≡ w
+one_verdict family ak ek d v w m n =
+    let actions : m.action ≡ n.action = one_action family ak d m.action n.action m.action_is n.action_is in
     let data_same : m.errno ≡ n.errno = one_errno ek d m.action n.action m.errno n.errno m.errno_is n.errno_is in
     m.verdict_is ∙ ap (λ a. verdict_of a m.errno) actions ∙ ap (verdict_of n.action) data_same ∙ sym n.verdict_is
+
+-- ---- more names
+
+-- what is said of a test stays where its other branch says as much
+branch_kept : {A : Type 0} (b : Bool) (x : A) (o p : Option A) (a : A) → (o ≡ Some a → p ≡ Some a) → cond b (Some x) o ≡ Some a
+    → cond b (Some x) p ≡ Some a
+branch_kept true x o p a kept h = h
+branch_kept false x o p a kept h = kept h
+
+named_kept : {A : Type 0} (es more : List (List ℕ × A)) (name : List ℕ) (a : A) → named es name ≡ Some a → named (es ++ more) name ≡ Some a
+named_kept [] more name a h = cc
+named_kept (e ∷ es) more name a h =
+    branch_kept (bytes_eq name e.0) e.1 (named es name) (named (es ++ more) name) a (named_kept es more name a) h
+
+action_widened : (k : List ℕ) (d : Data) (a : Action) → NamesAction Chosen k d a → NamesAction Whole k d a
+unfolding action_named
+action_widened k d a m = (m.0, m.1, named_kept actions more_actions m.0 a m.2)
+
+pub verdict_widened : (ak ek : List ℕ) (d : Data) (w : ℕ) → VerdictMeans Chosen ak ek d w → VerdictMeans Whole ak ek d w
+verdict_widened ak ek d w m =
+    record {
+      action = m.action;
+      action_is = action_widened ak d m.action m.action_is;
+      errno = m.errno;
+      errno_is = m.errno_is;
+      verdict_is = m.verdict_is;
+    }

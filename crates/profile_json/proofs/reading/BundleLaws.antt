@@ -19,7 +19,7 @@ use Rattle.profile_json.specs.Parts.{EntryParts}
 use Rattle.profile_json.specs.CallName.{short_name}
 use Rattle.profile_json.specs.Rules.{rules_of}
 use Rattle.profile_json.specs.inner.Outcome.{◌>>=◌}
-use Rattle.profile_json.specs.inner.Reading.{Said, default_of, refused_of, archs_of, entries_of, root_of, said_of}
+use Rattle.profile_json.specs.inner.Reading.{Said, default_of, keys_of, archs_of, entries_of, root_of, said_of}
 use Rattle.profile_json.specs.Meaning.{IsText, RootMeans, VerdictMeans, KeysMean, ListsArchs, EntryMeans, EntriesMean, Means}
 use Rattle.profile_json.specs.Breaks.{Breaks, VerdictBreaks, EntriesBreak, SeccompBreaks, ValueBreaks}
 use Rattle.profile_json.specs.Breaks as broken
@@ -33,24 +33,24 @@ use Rattle.profile_json.proofs.reading.EntryLaws.{entries_mean, EntriesRefused, 
 
 -- what is read of the object under linux.seccomp
 pub record SaidMeans (s : Data) (native : Arch) (said : Said) : Type 0 where
-  pub default_is : VerdictMeans key.default_action key.default_errno_ret s said.default_word
-  pub keys : KeysMean s
+  pub default_is : VerdictMeans (family_of native) key.default_action key.default_errno_ret s said.default_word
+  pub keys : KeysMean (family_of native) s
   pub archs : ListsArchs s native said.archs
   pub native_listed : Contains said.archs native
   pub entries : EntriesMean (family_of native) s said.entries
 
-default_means : (s : Data) (w : ℕ) → default_of s ≡ Ok w → VerdictMeans key.default_action key.default_errno_ret s w
+default_means : (family : Family) (s : Data) (w : ℕ) → default_of family s ≡ Ok w → VerdictMeans family key.default_action key.default_errno_ret s w
 unfolding default_of
-default_means s w h = verdict_means key.default_action key.default_errno_ret s w h
+default_means family s w h = verdict_means family key.default_action key.default_errno_ret s w h
 
-default_breaks : (s : Data) (f : Fault) → default_of s ≡ Err f → VerdictBreaks key.default_action key.default_errno_ret s f
+default_breaks : (family : Family) (s : Data) (f : Fault) → default_of family s ≡ Err f → VerdictBreaks family key.default_action key.default_errno_ret s f
 unfolding default_of
-default_breaks s f h = verdict_breaks key.default_action key.default_errno_ret s f h
+default_breaks family s f h = verdict_breaks family key.default_action key.default_errno_ret s f h
 
 said : ℕ → List Arch → List EntryParts → Said
 said word archs entries = record { default_word = word; archs = archs; entries = entries }
 
--- what is read after the machines, the refused keys, and the default verdict
+-- what is read after the machines, the keys of loading, and the default verdict
 after_archs : Arch → Data → ℕ → List Arch → Result Said Fault
 after_archs native s word archs = entries_of (family_of native) s >>= (λ entries. Ok (said word archs entries))
 
@@ -58,19 +58,19 @@ after_keys : Arch → Data → ℕ → Unit {0} → Result Said Fault
 after_keys native s word r = archs_of native s >>= after_archs native s word
 
 after_default : Arch → Data → ℕ → Result Said Fault
-after_default native s word = refused_of s >>= after_keys native s word
+after_default native s word = keys_of (family_of native) s >>= after_keys native s word
 
 pub said_means : (s : Data) (native : Arch) (x : Said) → said_of native s ≡ Ok x → SaidMeans s native x
 unfolding said_of said after_default after_keys after_archs
 said_means s native x h =
-    let w = bind_ok (default_of s) (after_default native s) x h in
-    let r = bind_ok (refused_of s) (after_keys native s w.0) x w.2 in
+    let w = bind_ok (default_of (family_of native) s) (after_default native s) x h in
+    let r = bind_ok (keys_of (family_of native) s) (after_keys native s w.0) x w.2 in
     let a = bind_ok (archs_of native s) (after_archs native s w.0) x r.2 in
     let e = bind_ok (entries_of (family_of native) s) (λ entries. Ok (said w.0 a.0 entries)) x a.2 in
     let archs = lists_archs s native a.0 a.1 in
     let means : SaidMeans s native (said w.0 a.0 e.0) = record {
-      default_is = default_means s w.0 w.1;
-      keys = keys_mean s r.0 r.1;
+      default_is = default_means (family_of native) s w.0 w.1;
+      keys = keys_mean (family_of native) s r.0 r.1;
       archs = archs.0;
       native_listed = archs.1;
       entries = entries_mean (family_of native) s e.0 e.1;
@@ -85,10 +85,10 @@ entries_break s native f (in_one_entry ds d _ at in_ds e) = broken.EntriesBreak.
 pub said_breaks : (s : Data) (native : Arch) (f : Fault) → said_of native s ≡ Err f → SeccompBreaks s native f
 unfolding said_of said after_default after_keys after_archs
 said_breaks s native f h =
-    elim (bind_err (default_of s) (after_default native s) f h) [
-      | inl bad ↦ broken.SeccompBreaks.default_word f (default_breaks s f bad)
-      | inr w ↦ elim (bind_err (refused_of s) (after_keys native s w.0) f w.2) [
-        | inl bad ↦ broken.SeccompBreaks.keys f (keys_break s f bad)
+    elim (bind_err (default_of (family_of native) s) (after_default native s) f h) [
+      | inl bad ↦ broken.SeccompBreaks.default_word f (default_breaks (family_of native) s f bad)
+      | inr w ↦ elim (bind_err (keys_of (family_of native) s) (after_keys native s w.0) f w.2) [
+        | inl bad ↦ broken.SeccompBreaks.keys f (keys_break (family_of native) s f bad)
         | inr r ↦ elim (bind_err (archs_of native s) (after_archs native s w.0) f r.2) [
           | inl bad ↦ broken.SeccompBreaks.archs f (archs_refused s native f bad)
           | inr a ↦ elim (bind_err (entries_of (family_of native) s) (λ entries. Ok (said w.0 a.0 entries)) f a.2) [
@@ -101,7 +101,7 @@ said_breaks s native f h =
 
 -- ---- the whole
 
-pub bundle_means : (t s : Data) (native : Arch) (x : Said) (p : Policy) → RootMeans t s → SaidMeans s native x → IsMade x native p
+pub bundle_means : (t s : Data) (native : Arch) (x : Said) (p : Policy) → RootMeans (family_of native) t s → SaidMeans s native x → IsMade x native p
     → Means t native p
 bundle_means t s native x p root said made =
     let built = made.built in
@@ -113,7 +113,7 @@ bundle_means t s native x p root said made =
     record {
       seccomp = s;
       root = root;
-      default_is = subst (VerdictMeans key.default_action key.default_errno_ret s) (sym built.default_is) said.default_is;
+      default_is = subst (VerdictMeans (family_of native) key.default_action key.default_errno_ret s) (sym built.default_is) said.default_is;
       calls = record {
         keys = said.keys;
         archs = x.archs;
@@ -151,18 +151,18 @@ not_made_breaks s native x f said (clash _ o) =
     broken.SeccompBreaks.entries f (subst (EntriesBreak s native) (sym o.fault_is) break)
 
 -- what each refusal of the reader says of the bytes
-pub root_fault : (bytes : List ℕ) (native : Arch) (t : Data) (o : Option Fault) → IsText bytes t → IsSomeAnd o (λ f. root_of t ≡ Err f)
+pub root_fault : (bytes : List ℕ) (native : Arch) (t : Data) (o : Option Fault) → IsText bytes t → IsSomeAnd o (λ f. root_of (family_of native) t ≡ Err f)
     → IfSome o (Breaks bytes native)
 root_fault bytes native t None text h = absurd h
-root_fault bytes native t (Some f) text h = broken.in_value t f text (broken.ValueBreaks.root f (root_breaks t f h))
+root_fault bytes native t (Some f) text h = broken.in_value t f text (broken.ValueBreaks.root f (root_breaks (family_of native) t f h))
 
-pub said_fault : (bytes : List ℕ) (native : Arch) (t s : Data) (o : Option Fault) → IsText bytes t → RootMeans t s
+pub said_fault : (bytes : List ℕ) (native : Arch) (t s : Data) (o : Option Fault) → IsText bytes t → RootMeans (family_of native) t s
     → IfSome o (λ f. said_of native s ≡ Err f) → IfSome o (Breaks bytes native)
 said_fault bytes native t s None text root h = tt
 said_fault bytes native t s (Some f) text root h =
     broken.in_value t f text (broken.ValueBreaks.seccomp s f root.seccomp (said_breaks s native f h))
 
-pub made_fault : (bytes : List ℕ) (native : Arch) (t s : Data) (x : Said) (o : Option Fault) → IsText bytes t → RootMeans t s
+pub made_fault : (bytes : List ℕ) (native : Arch) (t s : Data) (x : Said) (o : Option Fault) → IsText bytes t → RootMeans (family_of native) t s
     → SaidMeans s native x → IfSome o (IsNotMade x native) → IfSome o (Breaks bytes native)
 made_fault bytes native t s x None text root said h = tt
 made_fault bytes native t s x (Some f) text root said h =

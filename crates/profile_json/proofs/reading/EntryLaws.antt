@@ -203,13 +203,13 @@ names_break family d f h =
 
 -- ---- an entry
 
-entry_verdict_means : (d : Data) (w : ℕ) → entry_verdict d ≡ Ok w → VerdictMeans key.action key.errno_ret d w
+entry_verdict_means : (family : Family) (d : Data) (w : ℕ) → entry_verdict family d ≡ Ok w → VerdictMeans family key.action key.errno_ret d w
 unfolding entry_verdict
-entry_verdict_means d w h = verdict_means key.action key.errno_ret d w h
+entry_verdict_means family d w h = verdict_means family key.action key.errno_ret d w h
 
-entry_verdict_breaks : (d : Data) (f : Fault) → entry_verdict d ≡ Err f → VerdictBreaks key.action key.errno_ret d f
+entry_verdict_breaks : (family : Family) (d : Data) (f : Fault) → entry_verdict family d ≡ Err f → VerdictBreaks family key.action key.errno_ret d f
 unfolding entry_verdict
-entry_verdict_breaks d f h = verdict_breaks key.action key.errno_ret d f h
+entry_verdict_breaks family d f h = verdict_breaks family key.action key.errno_ret d f h
 
 parts : List (List ℕ) → ℕ → List CondParts → EntryParts
 parts names word conds = record { names = names; conds = conds; word = word }
@@ -218,19 +218,19 @@ parts names word conds = record { names = names; conds = conds; word = word }
 after_verdict : Data → List (List ℕ) → ℕ → Result EntryParts Fault
 after_verdict d names word = args_of d >>= (λ conds. Ok (parts names word conds))
 
-after_names : Data → List (List ℕ) → Result EntryParts Fault
-after_names d names = entry_verdict d >>= after_verdict d names
+after_names : Family → Data → List (List ℕ) → Result EntryParts Fault
+after_names family d names = entry_verdict family d >>= after_verdict d names
 
-entry_ok_in : (family : Family) (d : Data) (e : EntryParts) → IsSome (object d) → (names_of family d >>= after_names d) ≡ Ok e → EntryMeans family d e
+entry_ok_in : (family : Family) (d : Data) (e : EntryParts) → IsSome (object d) → (names_of family d >>= after_names family d) ≡ Ok e → EntryMeans family d e
 unfolding after_names after_verdict parts
 entry_ok_in family d e is_object h =
-    let at_n = bind_ok (names_of family d) (after_names d) e h in
-    let at_w = bind_ok (entry_verdict d) (after_verdict d at_n.0) e at_n.2 in
+    let at_n = bind_ok (names_of family d) (after_names family d) e h in
+    let at_w = bind_ok (entry_verdict family d) (after_verdict d at_n.0) e at_n.2 in
     let at_c = bind_ok (args_of d) (λ conds. Ok (parts at_n.0 at_w.0 conds)) e at_w.2 in
     let means : EntryMeans family d (parts at_n.0 at_w.0 at_c.0) = record {
       is_object = is_object;
       names = names_mean family d at_n.0 at_n.1;
-      verdict_is = entry_verdict_means d at_w.0 at_w.1;
+      verdict_is = entry_verdict_means family d at_w.0 at_w.1;
       args = args_mean d at_c.0 at_c.1;
     } in
     subst (EntryMeans family d) (ok_same (parts at_n.0 at_w.0 at_c.0) e at_c.2) means
@@ -238,18 +238,18 @@ entry_ok_in family d e is_object h =
 entry_means : (family : Family) (d : Data) (e : EntryParts) → entry_of family d ≡ Ok e → EntryMeans family d e
 unfolding entry_of after_names after_verdict parts
 entry_means family d e h =
-    let at = bind_ok (typed (object d)) (λ o. names_of family o >>= after_names o) e h in
+    let at = bind_ok (typed (object d)) (λ o. names_of family o >>= after_names family o) e h in
     let o = object_is d at.0 at.1 in
     let some : IsSome (object at.0) = subst (λ (x : Data). IsSome (object x)) o.1 o.0 in
     subst (λ (x : Data). EntryMeans family x e) (sym o.1) (entry_ok_in family at.0 e some at.2)
 
-entry_err_in : (family : Family) (d : Data) (f : Fault) → IsSome (object d) → (names_of family d >>= after_names d) ≡ Err f → EntryBreaks family d f
+entry_err_in : (family : Family) (d : Data) (f : Fault) → IsSome (object d) → (names_of family d >>= after_names family d) ≡ Err f → EntryBreaks family d f
 unfolding after_names after_verdict
 entry_err_in family d f is_object h =
-    elim (bind_err (names_of family d) (after_names d) f h) [
+    elim (bind_err (names_of family d) (after_names family d) f h) [
       | inl bad ↦ broken.names f is_object (names_break family d f bad)
-      | inr at_n ↦ elim (bind_err (entry_verdict d) (after_verdict d at_n.0) f at_n.2) [
-        | inl bad ↦ broken.word f is_object (entry_verdict_breaks d f bad)
+      | inr at_n ↦ elim (bind_err (entry_verdict family d) (after_verdict d at_n.0) f at_n.2) [
+        | inl bad ↦ broken.word f is_object (entry_verdict_breaks family d f bad)
         | inr at_w ↦ elim (bind_err (args_of d) (λ conds. Ok (parts at_n.0 at_w.0 conds)) f at_w.2) [
           | inl bad ↦ broken.args f is_object (args_break d f bad)
           | inr at_c ↦ absurd (not_ok (parts at_n.0 at_w.0 at_c.0) f at_c.2)
@@ -260,7 +260,7 @@ entry_err_in family d f is_object h =
 entry_breaks : (family : Family) (d : Data) (f : Fault) → entry_of family d ≡ Err f → EntryBreaks family d f
 unfolding entry_of after_names after_verdict parts
 entry_breaks family d f h =
-    elim (bind_err (typed (object d)) (λ o. names_of family o >>= after_names o) f h) [
+    elim (bind_err (typed (object d)) (λ o. names_of family o >>= after_names family o) f h) [
       | inl bad ↦ (let at = object_not d f bad in subst (EntryBreaks family d) at.1 (broken.EntryBreaks.no_object at.0))
       | inr at ↦
           let o = object_is d at.0 at.1 in

@@ -1,5 +1,5 @@
 -- A bundle that means a profile breaks no rule.
-use Rattle.std.proofs.Common.{◌≡◌, ℕ, List, [], ◌∷◌, length, map, Some, sym, ◌∙◌, ap, subst, arith}
+use Rattle.std.proofs.Common.{◌≡◌, ℕ, List, [], length, map, Some, sym, ◌∙◌, ap, subst, arith}
 use Rattle.std.specs.Prelude.{codes}
 use Rattle.std.specs.List.{AllZip, Contains, slice_get}
 use Rattle.serde_json.specs.Read.{read}
@@ -21,13 +21,13 @@ use Rattle.profile_json.specs.Rules.{rules_under, rules_of_entry, rules_of}
 use Rattle.profile_json.specs.Meaning.{none, VerdictMeans, EntryMeans, EntriesMean, CallsMean, Means}
 use Rattle.profile_json.specs.Breaks.{ClashUnder, EntriesBreak, no_list, many, in_entry, many_rules, overlapping, SeccompBreaks}
 use Rattle.profile_json.specs.Breaks.{default_word, keys, archs, entries, ValueBreaks, root, seccomp, no_value, in_value}
-use Rattle.profile_json.specs.Laws.{MeaningIsUnbroken, MeaningIsOne, MeaningIsKept}
-use Rattle.profile_json.proofs.Lists.{contains_head, contains_at, contains_map_back, contains_flat, related, related_at, one_related}
+use Rattle.profile_json.specs.Laws.{MeaningIsUnbroken, MeaningIsOne, MeaningIsKept, MeaningIsWidened}
+use Rattle.profile_json.proofs.Lists.{contains_at, contains_map_back, contains_flat, related, related_at, one_related}
 use Rattle.profile_json.proofs.PartsLemmas.{rule_same, rules_same}
 use Rattle.profile_json.proofs.reading.Steps.{none_some}
-use Rattle.profile_json.proofs.reading.RootLaws.{one_seccomp, root_unbroken}
-use Rattle.profile_json.proofs.reading.ActionLaws.{verdict_unbroken, one_verdict}
-use Rattle.profile_json.proofs.reading.KeyLaws.{keys_unbroken}
+use Rattle.profile_json.proofs.reading.RootLaws.{one_seccomp, root_unbroken, first_edition, root_widened}
+use Rattle.profile_json.proofs.reading.ActionLaws.{verdict_unbroken, one_verdict, verdict_widened}
+use Rattle.profile_json.proofs.reading.KeyLaws.{keys_unbroken, keys_widened}
 use Rattle.profile_json.proofs.reading.ArchLaws.{one_archs, archs_unbroken}
 use Rattle.profile_json.proofs.unbroken.UnbrokenEntry.{entry_unbroken, one_entry}
 
@@ -105,14 +105,14 @@ module _ (s : Data) (native : Arch) (p : Policy) (m : CallsMean s native p) wher
 
 seccomp_unbroken : (t : Data) (native : Arch) (p : Policy) (f : Fault) (m : Means t native p) → SeccompBreaks m.seccomp native f → ⊥
 seccomp_unbroken t native p f m (default_word _ bad) =
-    verdict_unbroken key.default_action key.default_errno_ret m.seccomp p.default_word f m.default_is bad
-seccomp_unbroken t native p f m (keys _ bad) = keys_unbroken m.seccomp f m.calls.keys bad
+    verdict_unbroken (family_of native) key.default_action key.default_errno_ret m.seccomp p.default_word f m.default_is bad
+seccomp_unbroken t native p f m (keys _ bad) = keys_unbroken (family_of native) m.seccomp f m.calls.keys bad
 seccomp_unbroken t native p f m (archs _ bad) =
     archs_unbroken m.seccomp native m.calls.archs f m.calls.lists_archs m.calls.native_listed bad
 seccomp_unbroken t native p f m (entries _ bad) = entries_unbroken m.seccomp native p m.calls f bad
 
 value_unbroken : (t : Data) (native : Arch) (p : Policy) (f : Fault) → Means t native p → ValueBreaks t native f → ⊥
-value_unbroken t native p f m (root _ bad) = root_unbroken t m.seccomp f m.root bad
+value_unbroken t native p f m (root _ bad) = root_unbroken (family_of native) t m.seccomp f m.root bad
 value_unbroken t native p f m (seccomp s _ is bad) =
     seccomp_unbroken t native p f m (subst (λ d. SeccompBreaks d native f) (one_seccomp t s m.seccomp is m.root.seccomp) bad)
 
@@ -137,9 +137,9 @@ one_policy s native p q words m n =
 pub meaning_is_one : MeaningIsOne
 meaning_is_one t native p q m n =
     let same : m.seccomp ≡ n.seccomp = one_seccomp t m.seccomp n.seccomp m.root.seccomp n.root.seccomp in
-    let word : VerdictMeans key.default_action key.default_errno_ret n.seccomp p.default_word =
-    subst (λ d. VerdictMeans key.default_action key.default_errno_ret d p.default_word) same m.default_is in
-    let words = one_verdict key.default_action key.default_errno_ret n.seccomp p.default_word q.default_word word n.default_is in
+    let word : VerdictMeans (family_of native) key.default_action key.default_errno_ret n.seccomp p.default_word =
+    subst (λ d. VerdictMeans (family_of native) key.default_action key.default_errno_ret d p.default_word) same m.default_is in
+    let words = one_verdict (family_of native) key.default_action key.default_errno_ret n.seccomp p.default_word q.default_word word n.default_is in
     one_policy n.seccomp native p q words (subst (λ d. CallsMean d native p) same m.calls) n.calls
 
 -- ---- what was meant before
@@ -152,9 +152,12 @@ meaning_is_kept t native p m =
         root = m.root;
         version = codes "1.0.2";
         version_is = m.version_is;
-        edition = contains_head (codes "1.0.2") (codes "1.1.0" ∷ []);
+        edition = first_edition (family_of native);
         seccomp = m.seccomp_is;
       };
       default_is = record { action = m.action; action_is = m.action_is; errno = 1; errno_is = none m.no_errno; verdict_is = m.default_is };
       calls = m.calls;
     }
+
+pub meaning_is_widened : MeaningIsWidened
+meaning_is_widened = record { roots = root_widened; verdicts = verdict_widened; keys = keys_widened }

@@ -61,7 +61,7 @@ one_names family d xs ys m n =
 pub entry_unbroken : (family : Family) (d : Data) (e : EntryParts) (f : Fault) → EntryMeans family d e → EntryBreaks family d f → ⊥
 entry_unbroken family d e _ m (no_object bad) = is_some_not_none (object d) m.is_object bad
 entry_unbroken family d e f m (names _ is_object bad) = names_unbroken family d e.names f m.names bad
-entry_unbroken family d e f m (word _ is_object bad) = verdict_unbroken key.action key.errno_ret d e.word f m.verdict_is bad
+entry_unbroken family d e f m (word _ is_object bad) = verdict_unbroken family key.action key.errno_ret d e.word f m.verdict_is bad
 entry_unbroken family d e f m (args _ is_object bad) = args_unbroken d e.conds f m.args bad
 
 entry_of : List (List ℕ) → List CondParts → ℕ → EntryParts
@@ -74,5 +74,5 @@ same_entry x y en ec ew = ap (λ ns. entry_of ns x.conds x.word) en ∙ ap (λ c
 
 pub one_entry : (family : Family) (d : Data) (x y : EntryParts) → EntryMeans family d x → EntryMeans family d y → x ≡ y
 one_entry family d x y m n =
-    let words : x.word ≡ y.word = one_verdict key.action key.errno_ret d x.word y.word m.verdict_is n.verdict_is in
+    let words : x.word ≡ y.word = one_verdict family key.action key.errno_ret d x.word y.word m.verdict_is n.verdict_is in
     same_entry x y (one_names family d x.names y.names m.names n.names) (one_args d x.conds y.conds m.args n.args) words

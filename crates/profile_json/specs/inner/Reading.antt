@@ -7,6 +7,7 @@ use Rattle.std.specs.Str.{bytes_eq}
 use Rattle.serde_json.specs.Data.{Data}
 use Rattle.call_tables.specs.declared.arch.Arch.{Arch}
 use Rattle.call_tables.specs.declared.arch.Family.{Family}
+use Rattle.call_tables.specs.declared.arch.Family.TheVariants.{Chosen, Whole}
 use Rattle.call_tables.specs.Arch.{family_of}
 use Rattle.profile.specs.declared.conditions.Op.{Op}
 use Rattle.profile.specs.Operator.{mask_of}
@@ -17,7 +18,7 @@ use Rattle.profile_json.specs.Fault.{unknown_call, empty_names, errno_not_taken,
 use Rattle.profile_json.specs.Fault.{stray_datum, unsupported_key, too_many}
 use Rattle.profile_json.specs.Parts.{CondParts, EntryParts}
 use Rattle.profile_json.specs.Lookup.{Member, missing, other_type, holds, member, or_default, object, text, whole, list}
-use Rattle.profile_json.specs.Names.{editions, action_named, takes_data, verdict_of, op_named, arch_named, is_known}
+use Rattle.profile_json.specs.Names.{editions, action_named, takes_data, verdict_of, filter_flags, op_named, arch_named, is_known}
 use Rattle.profile_json.specs.Names.{most_entries, most_names}
 use Rattle.call_tables.specs.Arch.{same_arch}
 use Rattle.profile_json.specs.Rules.{or_native}
@@ -54,56 +55,88 @@ each read (d ∷ ds) = read d >>= (λ x. with_front (x ∷ []) (each read ds))
 
 -- ---- root
 
-unfoldable pub version_of : Data → Result (Unit {0}) Fault
-version_of t = do
+unfoldable pub version_of : Family → Data → Result (Unit {0}) Fault
+version_of family t = do
   v ← needed missing_key (member text key.oci_version t)
-  if list_any (λ e. bytes_eq e v) editions then Ok tt else Err version
+  if list_any (λ e. bytes_eq e v) (editions family) then Ok tt else Err version
 
 unfoldable pub seccomp_of : Data → Result Data Fault
 seccomp_of t = do
   l ← needed no_seccomp (member object key.linux t)
   needed no_seccomp (member object key.seccomp l)
 
-unfoldable pub root_of : Data → Result Data Fault
-root_of t = do
+unfoldable pub root_of : Family → Data → Result Data Fault
+root_of family t = do
   root ← typed (object t)
-  v ← version_of root
+  v ← version_of family root
   seccomp_of root
 
 -- ---- actions
 
-unfoldable pub action_at : List ℕ → Data → Result Action Fault
-action_at k d = do
+unfoldable pub action_at : Family → List ℕ → Data → Result Action Fault
+action_at family k d = do
   name ← needed missing_key (member text k d)
-  ok_or (action_named name) unknown_action
+  ok_or (action_named family name) unknown_action
 
 abbrev pub errno_in : Action → Member ℕ → Result ℕ Fault
 errno_in a missing = Ok 1
 errno_in a other_type = Err wrong_type
 errno_in a (holds n) = if takes_data a then (if nat_le n 4095 then Ok n else Err errno_range) else Err errno_not_taken
 
-unfoldable pub verdict_at : List ℕ → List ℕ → Data → Result ℕ Fault
-verdict_at action_key errno_key d = do
-  a ← action_at action_key d
+unfoldable pub verdict_at : Family → List ℕ → List ℕ → Data → Result ℕ Fault
+verdict_at family action_key errno_key d = do
+  a ← action_at family action_key d
   n ← errno_in a (member whole errno_key d)
   Ok (verdict_of a n)
 
-unfoldable pub default_of : Data → Result ℕ Fault
-default_of s = verdict_at key.default_action key.default_errno_ret s
+unfoldable pub default_of : Family → Data → Result ℕ Fault
+default_of family s = verdict_at family key.default_action key.default_errno_ret s
 
-unfoldable pub entry_verdict : Data → Result ℕ Fault
-entry_verdict d = verdict_at key.action key.errno_ret d
+unfoldable pub entry_verdict : Family → Data → Result ℕ Fault
+entry_verdict family d = verdict_at family key.action key.errno_ret d
 
--- ---- keys that are refused
+-- ---- flags and the listener
 
 abbrev pub empty : {A : Type 0} → Member (List A) → Result (Unit {0}) Fault
 empty m = typed (or_default [] m) >>= (λ xs. if is_empty xs then Ok tt else Err unsupported_key)
 
-unfoldable pub refused_of : Data → Result (Unit {0}) Fault
-refused_of s = do
+unfoldable pub unused_of : Data → Result (Unit {0}) Fault
+unused_of s = do
   b ← empty (member list key.flags s)
   c ← empty (member text key.listener_path s)
   empty (member text key.listener_metadata s)
+
+unfoldable pub flag_of : Data → Result (Unit {0}) Fault
+flag_of d = do
+  name ← typed (text d)
+  if list_any (λ f. bytes_eq f name) filter_flags then Ok tt else Err unsupported_key
+
+abbrev pub flags_in : List Data → Result (Unit {0}) Fault
+flags_in [] = Ok tt
+flags_in (d ∷ ds) = flag_of d >>= (λ u. flags_in ds)
+
+unfoldable pub flags_of : Data → Result (Unit {0}) Fault
+flags_of s = do
+  ds ← typed (or_default [] (member list key.flags s))
+  flags_in ds
+
+abbrev pub metadata_for : List ℕ → List ℕ → Result (Unit {0}) Fault
+metadata_for path metadata = if is_empty path then (if is_empty metadata then Ok tt else Err unsupported_key) else Ok tt
+
+unfoldable pub listener_of : Data → Result (Unit {0}) Fault
+listener_of s = do
+  path ← typed (or_default [] (member text key.listener_path s))
+  metadata ← typed (or_default [] (member text key.listener_metadata s))
+  metadata_for path metadata
+
+unfoldable pub named_of : Data → Result (Unit {0}) Fault
+named_of s = do
+  b ← flags_of s
+  listener_of s
+
+abbrev pub keys_of : Family → Data → Result (Unit {0}) Fault
+keys_of Chosen s = unused_of s
+keys_of Whole s = named_of s
 
 -- ---- machines
 
@@ -175,7 +208,7 @@ unfoldable pub entry_of : Family → Data → Result EntryParts Fault
 entry_of family d = do
   o ← typed (object d)
   names ← names_of family o
-  word ← entry_verdict o
+  word ← entry_verdict family o
   conds ← args_of o
   Ok (record { names = names; conds = conds; word = word })
 
@@ -194,8 +227,8 @@ pub record Said : Type 0 where
 
 unfoldable pub said_of : Arch → Data → Result Said Fault
 said_of native s = do
-  word ← default_of s
-  r ← refused_of s
+  word ← default_of (family_of native) s
+  r ← keys_of (family_of native) s
   archs ← archs_of native s
   entries ← entries_of (family_of native) s
   Ok (record { default_word = word; archs = archs; entries = entries })

@@ -3,8 +3,8 @@ use Rattle.cli.specs.Files.{HasEnough}
 use Rattle.cli.proofs.FileLaws.{shown_of_file}
 use Rattle.cli.proofs.showing.annotated.Goals as goal
 
-pub returns-in-Ok-annotated : goal.returns-in-Ok-annotated
-returns-in-Ok-annotated g c =
+pub returns-in-Ok-shown_as : goal.returns-in-Ok-shown_as
+returns-in-Ok-shown_as g c =
     let read = subst (λ (b : List ℕ). HasEnough 32768 (g.F.Files.folder c.args.files.now) c.args.filter.now b) (sym c.deref.ensures.value)
     c.in-Ok.ensures.ok in
-    (read.file ∷ [], (read.is, tt), shown_of_file read.file c.deref.result.now read.enough _ c.in-Ok-annotated.told c.in-Ok-annotated.ensures)
+    (read.file ∷ [], (read.is, tt), shown_of_file read.file c.deref.result.now read.enough _ c.in-Ok-shown_as.told c.in-Ok-shown_as.ensures)

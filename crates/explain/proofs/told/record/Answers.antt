@@ -5,7 +5,7 @@ use Rattle.explain.proofs.told.record.Goals as goal
 
 pub returns-in_default : goal.returns-in_default
 returns-in_default c =
-    no_call c.args.native c.args.arguments.now c.refused.result (c.in_ok-call.ensures.none c.in_default.is) c.refused.ensures
+    no_call c.args.native c.args.arguments.now c.refused_words.result (c.in_ok-call.ensures.none c.in_default.is) c.refused_words.ensures
 
 pub returns : goal.returns
 returns c =

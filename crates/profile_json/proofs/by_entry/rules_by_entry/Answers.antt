@@ -19,7 +19,7 @@ returns-in_err-seccomp-clause-err c =
 pub returns-in_err-said-clause-err : goal.returns-in_err-said-clause-err
 returns-in_err-said-clause-err c =
     let p = err_from_is_err_and c.from_residual-in_err-said.result c.from_residual-in_err-said.ensures.1 in
-    let root = root_means (view c.in_ok-value.value) (view c.in_ok-seccomp.seccomp.now) c.in_ok-seccomp.ensures in
+    let root = root_means (family_of c.args.native) (view c.in_ok-value.value) (view c.in_ok-seccomp.seccomp.now) c.in_ok-seccomp.ensures in
     rw (p.1, p.2) (said_fault c.args.text.now c.args.native (view c.in_ok-value.value) (view c.in_ok-seccomp.seccomp.now) _
     c.in_ok-value.ensures.ok root c.in_err-said.ensures.reading)
 
@@ -32,7 +32,7 @@ returns-clause-ok c =
       t = view c.in_ok-value.value;
       is_text = c.in_ok-value.ensures.ok;
       seccomp = view c.in_ok-seccomp.seccomp.now;
-      root = root_means (view c.in_ok-value.value) (view c.in_ok-seccomp.seccomp.now) c.in_ok-seccomp.ensures;
+      root = root_means (family_of c.args.native) (view c.in_ok-value.value) (view c.in_ok-seccomp.seccomp.now) c.in_ok-seccomp.ensures;
       archs = c.in_ok-said.said.archs.items;
       lists_archs = said.archs;
       entries = map entry_parts c.in_ok-said.said.entries.items;

@@ -7,7 +7,13 @@ pub returns : goal.returns
 returns c =
     let native = c.args.native in
     let bundle = c.args.bundle.now in
-    let inner = c.in_ok-told.told in
-    if_ok_weaker (TellsUnread native bundle inner) (IsReadOut native bundle)
-    (λ told unread short. record { inner = inner; is_read = c.in_ok-told.ensures short; unread = unread })
+    let middle = c.in_ok-told.told in
+    if_ok_weaker (TellsUnread native bundle middle) (IsReadOut native bundle)
+    (λ told unread short. record {
+      inner = c.in_ok-meaning.meaning;
+      is_read = c.in_ok-meaning.ensures short;
+      middle = middle;
+      beside = c.in_ok-told.ensures;
+      unread = unread;
+    })
     c.with_unread.result c.with_unread.ensures

@@ -1,12 +1,13 @@
-use Rattle.std.proofs.Common.{inl}
-use Rattle.std.specs.Prelude.{codes}
+use Rattle.std.proofs.Common.{[], inl}
+use Rattle.call_words.specs.Wrong.{TellsWrongCall}
 use Rattle.explain.specs.Any.{IsExplained}
-use Rattle.wording.specs.Told.{TellsLine}
+use Rattle.explain.specs.Refused.{Refuses}
 use Rattle.wording.proofs.Results.{if_ok_weaker}
 use Rattle.explain.proofs.audited.any.explain_any.Goals as goal
 
 pub returns-in-None : goal.returns-in-None
 returns-in-None c =
     let none = c.in_ok-arch.ensures.none c.in-None.is in
-    if_ok_weaker (TellsLine (codes "refused call")) (IsExplained c.args.native c.args.bundle.now c.args.word.now)
-    (λ told tells. inl (record { none = none; tells = tells })) c.no_call.result c.no_call.ensures
+    if_ok_weaker (Refuses c.args.native (TellsWrongCall c.args.native c.args.word.now []))
+    (IsExplained c.args.native c.args.bundle.now c.args.word.now)
+    (λ told refuses. inl (record { none = none; refuses = refuses })) c.refused_word.result c.refused_word.ensures

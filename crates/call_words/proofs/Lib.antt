@@ -1,0 +1,3 @@
+mod NearLaws
+mod SumLaws
+mod WrongLaws

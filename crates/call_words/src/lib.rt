@@ -1,0 +1,13 @@
+//! The words by which a call is asked for on a command line, and what is wrong with those that ask for none.
+#![tactic(auto)]
+
+mod constants;
+mod law;
+mod nearest;
+mod numbers;
+mod sums;
+mod wrong;
+
+pub use law::numbers_stay;
+pub use sums::sum;
+pub use wrong::{put_wrong, put_wrong_call};
