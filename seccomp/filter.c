@@ -62,13 +62,11 @@ static void enlist(struct filter *filter) {
     leave(&contexts_taken);
 }
 
+/* Takes a context off the list: both are taken by this thread. */
 static void delist(struct filter *filter) {
-    hold(&contexts_taken, this_thread()); /* before the context itself, as a fork does */
-    hold(&filter->taken, this_thread());
     if (filter->next) filter->next->previous = filter->previous;
     if (filter->previous) filter->previous->next = filter->next;
     else contexts = filter->next;
-    leave(&contexts_taken);
 }
 
 static bool is_context(const struct filter *filter) { return filter && filter->mark == MARK; }
@@ -93,15 +91,24 @@ struct filter *take(scmp_filter_ctx ctx) {
     return NULL; /* as libseccomp: one without a machine is none */
 }
 
+/* Ends the transactions from this one on: what they kept is given back. */
+static void end_transactions(struct filter *filter, unsigned first) {
+    while (filter->nested > first) {
+        free(filter->kept[--filter->nested]);
+        filter->kept[filter->nested] = NULL;
+    }
+}
+
 static void start(struct filter *filter, uint32_t action) {
     drop_rules(filter, 0);
+    end_transactions(filter, 0);
     filter->now = (struct state){.machines = 1u << NATIVE};
     filter->now.attributes[DEFAULT_ACTION] = action;
     filter->now.attributes[BAD_MACHINE_ACTION] = KILL_THREAD;
     filter->now.attributes[NO_NEW_PRIVS] = 1;
     filter->now.attributes[OPTIMIZE] = 1;
-    filter->nested = 0;
     filter->length = 0;
+    filter->notifies = action == NOTIFY;
 }
 
 /* Whether a call with the one action is carried out, and with the other not. */
@@ -113,7 +120,7 @@ bool has_more_rights(uint32_t action, uint32_t other) {
 int judge_action(uint32_t action) {
     switch (action) {
     case KILL_PROCESS: case KILL_THREAD: case TRAP: case LOG: case ALLOW: return 0;
-    case NOTIFY: return refuse(-EOPNOTSUPP, "SCMP_ACT_NOTIFY is no action of ccell");
+    case NOTIFY: return judge_notify(false);
     }
     if ((action & ACTION) == TRACE || ((action & ACTION) == ERRNO && (action & ~ACTION) < 4095)) return 0;
     return -EINVAL;
@@ -126,19 +133,24 @@ API const struct scmp_version *seccomp_version(void) {
     return &version;
 }
 
+/* The flags that the kernel has to have for each level above the first. */
+static const unsigned OF_LEVEL[] = {
+    SECCOMP_FILTER_FLAG_TSYNC, SECCOMP_FILTER_FLAG_LOG, SECCOMP_FILTER_FLAG_SPEC_ALLOW, SECCOMP_FILTER_FLAG_NEW_LISTENER,
+    SECCOMP_FILTER_FLAG_TSYNC_ESRCH, SECCOMP_FILTER_FLAG_NEW_LISTENER | SECCOMP_FILTER_FLAG_WAIT_KILLABLE_RECV};
+enum { HIGHEST = 1 + sizeof OF_LEVEL / sizeof *OF_LEVEL };
 static _Atomic unsigned level;
 
 static bool kernel_has(unsigned flag) { return syscall(SYS_seccomp, SECCOMP_SET_MODE_FILTER, flag, NULL) < 0 && errno == EFAULT; }
 
 API unsigned seccomp_api_get(void) {
-    if (!level)
-        level = !kernel_has(SECCOMP_FILTER_FLAG_TSYNC) ? 1 : !kernel_has(SECCOMP_FILTER_FLAG_LOG) ? 2
-            : !kernel_has(SECCOMP_FILTER_FLAG_SPEC_ALLOW) ? 3 : 4; /* higher ones are of SCMP_ACT_NOTIFY */
-    return level;
+    unsigned found = level;
+    if (found) return found;
+    for (found = 1; found < HIGHEST && kernel_has(OF_LEVEL[found - 1]);) found++;
+    return level = found;
 }
 
 API int seccomp_api_set(unsigned wanted) {
-    if (wanted < 1 || wanted > 4) return -EINVAL;
+    if (wanted < 1 || wanted > HIGHEST) return -EINVAL;
     level = wanted;
     return 0;
 }
@@ -158,18 +170,19 @@ API scmp_filter_ctx seccomp_init(uint32_t action) {
 
 API int seccomp_reset(scmp_filter_ctx ctx, uint32_t action) {
     struct filter *filter = begun(ctx);
-    if (!ctx) level = 0;
+    if (!ctx) {
+        level = 0;
+        close_listener();
+    }
     if (!filter) return ctx ? -EINVAL : 0;
     int error = judge_action(action) ? -EINVAL : 0;
     if (!error) start(filter, action);
     return done(filter, error);
 }
 
-API void seccomp_release(scmp_filter_ctx ctx) {
-    struct filter *filter = ctx;
-    forget_why();
-    if (!is_context(filter)) return;
+static void give_up(struct filter *filter) {
     delist(filter);
+    end_transactions(filter, 0);
     filter->mark = 0;
     free(filter->rules);
     free(filter->latest);
@@ -177,18 +190,24 @@ API void seccomp_release(scmp_filter_ctx ctx) {
     free(filter);
 }
 
-/* Whether this is a context with a machine. No two are held at once: another thread may name them the other way round. */
-static bool is_filter(scmp_filter_ctx ctx) {
-    struct filter *filter = take(ctx);
-    return filter && !done(filter, 0);
-}
-
-API int seccomp_merge(scmp_filter_ctx into, scmp_filter_ctx from) {
-    if (!is_filter(into) || !is_filter(from) || into == from) return -EINVAL;
-    return refuse(-EOPNOTSUPP, "seccomp_merge: filters are not merged");
+API void seccomp_release(scmp_filter_ctx ctx) {
+    struct filter *filter = ctx;
+    forget_why();
+    if (!is_context(filter)) return;
+    hold(&contexts_taken, this_thread()); /* before the context itself, as a fork does */
+    hold(&filter->taken, this_thread());
+    give_up(filter);
+    leave(&contexts_taken);
 }
 
 /* ---- machines */
+
+/* Whether the order of bytes is another than that of the context's machines. */
+static bool has_other_order(const struct filter *filter, int machine) {
+    for (int i = 0; i < MACHINES; i++)
+        if (filter->now.machines >> i & 1 && (MACHINE[i].token ^ MACHINE[machine].token) & LOWEST_FIRST) return true;
+    return false;
+}
 
 API int seccomp_arch_exist(const scmp_filter_ctx ctx, uint32_t token) {
     int machine = machine_with(token);
@@ -196,13 +215,6 @@ API int seccomp_arch_exist(const scmp_filter_ctx ctx, uint32_t token) {
     if (!filter) return -EINVAL;
     if (machine < 0) return done(filter, -EINVAL);
     return done(filter, filter->now.machines >> machine & 1 ? 0 : -EEXIST);
-}
-
-/* Whether the order of bytes is another than that of the context's machines. */
-static bool has_other_order(const struct filter *filter, int machine) {
-    for (int i = 0; i < MACHINES; i++)
-        if (filter->now.machines >> i & 1 && (MACHINE[i].token ^ MACHINE[machine].token) & LOWEST_FIRST) return true;
-    return false;
 }
 
 API int seccomp_arch_add(scmp_filter_ctx ctx, uint32_t token) {
@@ -217,17 +229,65 @@ API int seccomp_arch_add(scmp_filter_ctx ctx, uint32_t token) {
     return done(filter, 0);
 }
 
+/* Keeps the machines of the rules that each open transaction began with, before one is taken away: 0, or -ENOMEM. */
+static int keep_machines(struct filter *filter) {
+    for (unsigned i = 0; i < filter->nested; i++) {
+        size_t count = filter->before[i].count;
+        if (filter->kept[i] || !count) continue;
+        if (!(filter->kept[i] = calloc(count, sizeof **filter->kept))) return -ENOMEM;
+        for (size_t k = 0; k < count; k++) filter->kept[i][k] = filter->rules[k].machines;
+    }
+    return 0;
+}
+
 API int seccomp_arch_remove(scmp_filter_ctx ctx, uint32_t token) {
     int machine = machine_with(token);
     struct filter *filter = begun(ctx);
     if (!filter) return -EINVAL;
     if (machine < 0) return done(filter, -EINVAL);
     if (!(filter->now.machines >> machine & 1)) return done(filter, -EEXIST);
-    if (filter->nested) return done(filter, refuse(-EOPNOTSUPP, "seccomp_arch_remove: not within a transaction"));
+    if (keep_machines(filter)) return done(filter, -ENOMEM);
     filter->now.machines &= ~(1u << machine);
     for (size_t i = 0; i < filter->now.count; i++) filter->rules[i].machines &= ~(1u << machine); /* its rules go with it */
     filter->length = 0;
     return done(filter, 0);
+}
+
+/* What libseccomp wants of two contexts that become one: alike in three attributes, one order of bytes, and no machine in both. */
+static int judge_merge(const struct filter *into, const struct filter *from) {
+    static const int ALIKE[] = {DEFAULT_ACTION, NO_NEW_PRIVS, ALL_THREADS};
+    if (!into->now.machines || !from->now.machines) return -EINVAL;
+    for (unsigned i = 0; i < sizeof ALIKE / sizeof *ALIKE; i++)
+        if (into->now.attributes[ALIKE[i]] != from->now.attributes[ALIKE[i]]) return -EINVAL;
+    if (has_other_order(into, __builtin_ctz(from->now.machines))) return -EDOM;
+    return into->now.machines & from->now.machines ? -EEXIST : 0;
+}
+
+/* The machines of the other context come with their rules. No two of these rules are for one machine, so none contradicts another. */
+static int merge(struct filter *into, struct filter *from) {
+    int error = judge_merge(into, from);
+    if (error) return error;
+    if (copy_rules(into, from)) return -ENOMEM;
+    into->now.machines |= from->now.machines;
+    into->notifies |= from->notifies;
+    into->length = 0;
+    give_up(from);
+    return 0;
+}
+
+/* Two contexts are held at once only while all are, so no two threads wait for each other. */
+API int seccomp_merge(scmp_filter_ctx into, scmp_filter_ctx from) {
+    struct filter *one = into, *other = from;
+    forget_why();
+    if (!is_context(one) || !is_context(other)) return -EINVAL;
+    hold(&contexts_taken, this_thread());
+    hold(&one->taken, this_thread());
+    if (other != one) hold(&other->taken, this_thread());
+    int error = merge(one, other);
+    if (error && other != one) leave(&other->taken);
+    leave(&one->taken);
+    leave(&contexts_taken);
+    return error;
 }
 
 /* ---- attributes */
@@ -241,20 +301,19 @@ API int seccomp_attr_get(const scmp_filter_ctx ctx, int attribute, uint32_t *val
 }
 
 /* 0, or why an attribute can't have the value. */
-static int judge_attribute(int attribute, uint32_t value) {
+static int judge_attribute(const struct filter *filter, int attribute, uint32_t value) {
     switch (attribute) {
     case DEFAULT_ACTION: return -EACCES;
     case BAD_MACHINE_ACTION:
         if (judge_action(value)) return -EINVAL;
         return value == KILL_THREAD ? 0
             : refuse(-EOPNOTSUPP, "SCMP_FLTATR_ACT_BADARCH: calls of other machines get KILL_THREAD, and not %s", action_text(value).is);
-    case ALL_THREADS: return seccomp_api_get() < 2 ? -EOPNOTSUPP : 0;
+    case ALL_THREADS: return seccomp_api_get() < 2 ? -EOPNOTSUPP : value && filter->notifies ? judge_notify(true) : 0;
     case RULES_FOR_SKIPPED: return value ? refuse(-EOPNOTSUPP, "SCMP_FLTATR_API_TSKIP: there are no rules for call -1") : 0;
     case LOG_REFUSED: return seccomp_api_get() < 3 ? -EOPNOTSUPP : 0;
     case NO_SSB_MITIGATION: return seccomp_api_get() < 4 ? -EOPNOTSUPP : 0;
     case OPTIMIZE: return value == 1 || value == 2 ? 0 : -EOPNOTSUPP;
-    case WAIT_KILL: return value ? -EOPNOTSUPP : 0; /* of SCMP_ACT_NOTIFY */
-    case NO_NEW_PRIVS: case ERRORS_OF_SYSTEM: return 0;
+    case NO_NEW_PRIVS: case ERRORS_OF_SYSTEM: case WAIT_KILL: return 0;
     }
     return -EINVAL;
 }
@@ -262,7 +321,7 @@ static int judge_attribute(int attribute, uint32_t value) {
 API int seccomp_attr_set(scmp_filter_ctx ctx, int attribute, uint32_t value) {
     struct filter *filter = take(ctx);
     if (!filter) return -EINVAL;
-    int error = judge_attribute(attribute, value);
+    int error = judge_attribute(filter, attribute, value);
     if (error) return done(filter, error);
     bool is_switch = attribute != BAD_MACHINE_ACTION && attribute != OPTIMIZE;
     filter->now.attributes[attribute] = is_switch ? !!value : value;
@@ -279,16 +338,21 @@ API int seccomp_transaction_start(const scmp_filter_ctx ctx) {
     return done(filter, 0);
 }
 
+/* What stood when a transaction began, with the machines that were taken away since. */
+static void restore(struct filter *filter, unsigned transaction) {
+    drop_rules(filter, filter->before[transaction].count);
+    filter->now = filter->before[transaction];
+    for (size_t i = 0; filter->kept[transaction] && i < filter->now.count; i++)
+        filter->rules[i].machines = filter->kept[transaction][i];
+    filter->length = 0;
+}
+
 static int end(scmp_filter_ctx ctx, bool keeps) {
     struct filter *filter = begun(ctx);
     if (!filter) return -EINVAL;
     if (!filter->nested) return done(filter, 0);
-    filter->nested--;
-    if (!keeps) {
-        drop_rules(filter, filter->before[filter->nested].count);
-        filter->now = filter->before[filter->nested];
-        filter->length = 0;
-    }
+    if (!keeps) restore(filter, filter->nested - 1);
+    end_transactions(filter, filter->nested - 1);
     return done(filter, 0);
 }
 

@@ -6,7 +6,7 @@
 #include <stdbool.h>
 
 #define API __attribute__((visibility("default")))
-enum { OURS = 5, MACHINES = 19, MOST_NESTED = 16 };
+enum { OURS = 5, MACHINES = 23, MOST_NESTED = 16 };
 
 /* Machines, those first for which ccell makes filters. A set of these is a mask of five bits. */
 struct machine { const char *name; uint32_t token; };
@@ -48,11 +48,13 @@ struct filter {
     struct filter *previous, *next;
     struct state now, before[MOST_NESTED];
     unsigned nested;
+    uint32_t *kept[MOST_NESTED]; /* of a transaction: the machines of each rule before it, if one was taken away since */
     struct rule *rules;
     size_t *latest; /* of each slot the place of its last rule, counted from 1 */
     size_t room;    /* of both: 0 or a power of two */
     uint8_t *bytes; /* CCELL_MOST_BYTES, once a filter was made */
     size_t length;  /* 0: none is made of what stands here now */
+    bool notifies;  /* SCMP_ACT_NOTIFY was its default or a rule's, so that it is loaded with a listener */
 };
 
 /* The context, taken for this thread, or NULL where it is none: give it back by `done`. */
@@ -62,9 +64,20 @@ struct filter *begun(scmp_filter_ctx ctx); /* the same for one that may have no 
 
 int judge_action(uint32_t action);
 bool has_more_rights(uint32_t action, uint32_t other);
+API unsigned seccomp_api_get(void);
+
+/* Whether SCMP_ACT_NOTIFY can be used here, in a filter for all threads or for one: 0, or an error. */
+int judge_notify(bool is_for_all_threads);
+/* With which flags a filter is loaded so that it has a listener, or 0 where it wants none or the process has one already. What comes of
+ * that load, a descriptor or less than 0, is to be kept. */
+unsigned claim_listener(const struct filter *filter);
+void keep_listener(long loaded);
+void close_listener(void);
 
 /* Drops the rules from this place on. */
 void drop_rules(struct filter *filter, size_t count);
+/* Copies the rules of another context behind those of this one: 0, or -ENOMEM. */
+int copy_rules(struct filter *filter, const struct filter *from);
 /* The place, counted from 1, of the last rule for a call before a place that is counted so, or of its last one of all where that is 0;
  * 0 where there is none. */
 size_t rule_before(const struct filter *filter, int call, int number, size_t place);

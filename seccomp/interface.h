@@ -5,6 +5,8 @@
 #include <stdint.h>
 
 typedef void *scmp_filter_ctx;
+struct seccomp_notif; /* of the kernel, as the next one */
+struct seccomp_notif_resp;
 struct scmp_version { unsigned major, minor, micro; };
 
 enum { /* attributes */

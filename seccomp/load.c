@@ -89,18 +89,9 @@ API int seccomp_load(const scmp_filter_ctx ctx) {
     unsigned flags = (is_on[ALL_THREADS] ? SECCOMP_FILTER_FLAG_TSYNC : 0) | (is_on[LOG_REFUSED] ? SECCOMP_FILTER_FLAG_LOG : 0) |
                      (is_on[NO_SSB_MITIGATION] ? SECCOMP_FILTER_FLAG_SPEC_ALLOW : 0);
     if (is_on[NO_NEW_PRIVS] && prctl(PR_SET_NO_NEW_PRIVS, 1, 0, 0, 0)) return done(filter, failed(filter));
-    long answer = syscall(SYS_seccomp, SECCOMP_SET_MODE_FILTER, flags, &whole);
-    return done(filter, answer < 0 ? failed(filter) : answer > 0 ? -ESRCH : 0); /* above 0: a thread that did not take it */
-}
-
-/* ---- SCMP_ACT_NOTIFY, which there is not */
-
-API int seccomp_notify_alloc(void **request, void **response) { return (void)request, (void)response, -EOPNOTSUPP; }
-API void seccomp_notify_free(void *request, void *response) { free(request), free(response); }
-API int seccomp_notify_receive(int fd, void *request) { return (void)fd, (void)request, -EOPNOTSUPP; }
-API int seccomp_notify_respond(int fd, void *response) { return (void)fd, (void)response, -EOPNOTSUPP; }
-API int seccomp_notify_id_valid(int fd, uint64_t id) { return (void)fd, (void)id, -EOPNOTSUPP; }
-API int seccomp_notify_fd(const scmp_filter_ctx ctx) {
-    struct filter *filter = take(ctx);
-    return filter ? done(filter, -EOPNOTSUPP) : -EINVAL;
+    unsigned listening = claim_listener(filter);
+    long answer = syscall(SYS_seccomp, SECCOMP_SET_MODE_FILTER, flags | listening, &whole);
+    if (listening) keep_listener(answer);
+    bool lacks_thread = answer < 0 ? errno == ESRCH : answer > 0 && !listening; /* one that did not take the filter */
+    return done(filter, lacks_thread ? -ESRCH : answer < 0 ? failed(filter) : 0);
 }

@@ -66,6 +66,16 @@ void drop_rules(struct filter *filter, size_t count) {
     }
 }
 
+int copy_rules(struct filter *filter, const struct filter *from) {
+    while (filter->room < filter->now.count + from->now.count)
+        if (grow(filter)) return -ENOMEM;
+    for (size_t i = 0; i < from->now.count; i++) {
+        filter->rules[filter->now.count] = from->rules[i];
+        enter(filter, filter->now.count++);
+    }
+    return 0;
+}
+
 const struct rule *whole_rule(const struct filter *filter, int call, int number, int machine) {
     const struct rule *first = NULL;
     for (size_t at = 0; (at = rule_before(filter, call, number, at));)
@@ -130,6 +140,7 @@ static int add(struct filter *filter, bool exact, uint32_t action, int number, u
     struct rule rule = {.action = action, .machines = filter->now.machines};
     if (number <= -1 && number >= -99) return -EINVAL;
     int error = judge_action(action);
+    if (!error && action == NOTIFY) error = judge_notify(filter->now.attributes[ALL_THREADS]);
     if (error) return error;
     if (action == filter->now.attributes[DEFAULT_ACTION]) return -EACCES;
     bool is_alone = !(rule.machines & (rule.machines - 1));
@@ -143,6 +154,8 @@ static int add(struct filter *filter, bool exact, uint32_t action, int number, u
     } else if (!one_has(rule.machines, rule.call)) {
         return exact ? -EDOM : 0; /* no machine that is listed has the call */
     }
+    uint64_t first;
+    if (exact && rule.count && way_of(&rule, &first) >= 0) return -EINVAL; /* as libseccomp: x86 has a way without these arguments */
     return append(filter, &rule);
 }
 
@@ -150,7 +163,9 @@ static int add_to(scmp_filter_ctx ctx, bool exact, uint32_t action, int number, 
     struct filter *filter = take(ctx);
     if (!filter) return -EINVAL;
     bool is_bad = count > ARGUMENTS || (count && !args);
-    return done(filter, is_bad ? -EINVAL : add(filter, exact, action, number, count, args));
+    int error = is_bad ? -EINVAL : add(filter, exact, action, number, count, args);
+    if (!error && action == NOTIFY) filter->notifies = true; /* as in libseccomp, also where no machine has the call */
+    return done(filter, error);
 }
 
 API int seccomp_rule_add_array(scmp_filter_ctx ctx, uint32_t action, int number, unsigned count, const struct scmp_arg_cmp *args) {

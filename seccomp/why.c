@@ -88,7 +88,7 @@ int refuse(int error, const char *form, ...) {
 struct text action_text(uint32_t action) {
     struct text text;
     const char *name = action == ALLOW ? "ALLOW" : action == LOG ? "LOG" : action == TRAP ? "TRAP" : action == KILL_THREAD ? "KILL_THREAD"
-        : action == KILL_PROCESS ? "KILL_PROCESS" : NULL;
+        : action == KILL_PROCESS ? "KILL_PROCESS" : action == NOTIFY ? "NOTIFY" : NULL;
     if (name) snprintf(text.is, sizeof text.is, "%s", name);
     else snprintf(text.is, sizeof text.is, "%s %u", (action & ACTION) == ERRNO ? "ERRNO" : "TRACE", action & ~ACTION);
     return text;

@@ -16,6 +16,7 @@
 scmp_filter_ctx seccomp_init(uint32_t action);
 void seccomp_release(scmp_filter_ctx ctx);
 int seccomp_reset(scmp_filter_ctx ctx, uint32_t action);
+int seccomp_merge(scmp_filter_ctx into, scmp_filter_ctx from);
 int seccomp_arch_add(scmp_filter_ctx ctx, uint32_t token);
 int seccomp_arch_remove(scmp_filter_ctx ctx, uint32_t token);
 int seccomp_arch_exist(scmp_filter_ctx ctx, uint32_t token);
@@ -37,7 +38,7 @@ int seccomp_export_bpf(scmp_filter_ctx ctx, int fd);
 int seccomp_export_bpf_mem(scmp_filter_ctx ctx, void *buffer, size_t *length) OF_2_6;
 
 enum { MOST_BYTES = 32768 };
-static scmp_filter_ctx ctx;
+static scmp_filter_ctx ctx, aside;
 static uint8_t bytes[MOST_BYTES];
 
 static const char *word(void) {
@@ -61,6 +62,23 @@ static int begin(uint32_t action) {
 static int end(void) {
     if (ctx) seccomp_release(ctx);
     ctx = NULL;
+    return 0;
+}
+
+/* The context that stands aside: the next one is another. */
+static int put_aside(void) {
+    if (aside) seccomp_release(aside);
+    aside = ctx;
+    ctx = NULL;
+    return 0;
+}
+
+/* Merges the context into the one that stands aside, which is then the only one. */
+static int merge(void) {
+    int error = seccomp_merge(aside, ctx);
+    if (error) return error;
+    ctx = aside;
+    aside = NULL;
     return 0;
 }
 
@@ -112,6 +130,8 @@ static void give_why(void) {
 static int answer_call(const char *call) {
     if (!strcmp(call, "init")) return begin((uint32_t)number());
     if (!strcmp(call, "release")) return end();
+    if (!strcmp(call, "put_aside")) return put_aside();
+    if (!strcmp(call, "merge")) return merge();
     if (!strcmp(call, "reset")) return seccomp_reset(ctx, (uint32_t)number());
     if (!strcmp(call, "arch_add")) return seccomp_arch_add(ctx, (uint32_t)number());
     if (!strcmp(call, "arch_remove")) return seccomp_arch_remove(ctx, (uint32_t)number());

@@ -17,6 +17,7 @@ scmp_filter_ctx seccomp_init(uint32_t action);
 void seccomp_release(scmp_filter_ctx ctx);
 int seccomp_reset(scmp_filter_ctx ctx, uint32_t action);
 int seccomp_arch_add(scmp_filter_ctx ctx, uint32_t token);
+int seccomp_arch_remove(scmp_filter_ctx ctx, uint32_t token);
 int seccomp_attr_set(scmp_filter_ctx ctx, int attribute, uint32_t value);
 int seccomp_rule_add_array(scmp_filter_ctx ctx, uint32_t action, int number, unsigned count, const struct scmp_arg_cmp *args);
 int seccomp_export_bpf(const scmp_filter_ctx ctx, int fd);
@@ -116,7 +117,16 @@ static void merge(void) {
     for (int i = 0; i < 2; i++) merged[i] = seccomp_init(ALLOW);
     for (int i = 0; i < 2; i++) pthread_create(&ids[i], NULL, merges, i ? merged : NULL);
     for (int i = 0; i < 2; i++) pthread_join(ids[i], NULL);
+    tell(seccomp_merge(merged[0], merged[1]), -EEXIST, "a merge of one machine with itself");
     for (int i = 0; i < 2; i++) seccomp_release(merged[i]);
+}
+
+static scmp_filter_ctx of_two(void) {
+    scmp_filter_ctx one = seccomp_init(ALLOW), other = seccomp_init(ALLOW);
+    seccomp_arch_add(other, BESIDE);
+    seccomp_arch_remove(other, 0);
+    tell(seccomp_merge(one, other), 0, "a merge");
+    return one;
 }
 
 /* A thread is at work in a context and makes and gives back others, while this one forks: each child can use the context. */
@@ -128,7 +138,7 @@ static void *works(void *ctx) {
         size_t length = sizeof second;
         seccomp_rule_add_array(ctx, ALLOW, 1000, 1, &is);
         if (value % 8 == 0) seccomp_export_bpf_mem(ctx, second, &length);
-        seccomp_release(seccomp_init(ALLOW));
+        seccomp_release(of_two());
     }
     return NULL;
 }

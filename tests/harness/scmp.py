@@ -10,9 +10,11 @@ import tempfile
 ACTIONS = {"KILL": 0, "KILL_PROCESS": 0x80000000, "TRAP": 0x30000, "LOG": 0x7FFC0000, "ALLOW": 0x7FFF0000, "NOTIFY": 0x7FC00000}
 WITH_DATA = {"ERRNO": 0x50000, "TRACE": 0x7FF00000}
 ARCHS = {"native": 0, "x86_64": 0xC000003E, "x86": 0x40000003, "x32": 0x4000003E, "aarch64": 0xC00000B7, "arm": 0x40000028,
-         "mips": 8, "mipsel": 0x40000008, "ppc64le": 0xC0000015, "s390x": 0x80000016, "riscv64": 0xC00000F3}
+         "mips": 8, "mipsel": 0x40000008, "ppc64le": 0xC0000015, "s390x": 0x80000016, "riscv64": 0xC00000F3,
+         "loongarch64": 0xC0000102, "m68k": 4, "sh": 0x4000002A, "sheb": 0x2A}
 TOKENS = dict(ARCHS, native=0xC000003E, x32=0xC000003E)
-ATTRIBUTES = {"default": 1, "badarch": 2, "nnp": 3, "tsync": 4, "tskip": 5, "log": 6, "ssb": 7, "optimize": 8, "rawrc": 9}
+ATTRIBUTES = {"default": 1, "badarch": 2, "nnp": 3, "tsync": 4, "tskip": 5, "log": 6, "ssb": 7, "optimize": 8, "rawrc": 9,
+              "waitkill": 10}
 OPERATORS = {"!=": 1, "<": 2, "<=": 3, "==": 4, ">=": 5, ">": 6}
 CONDITION = re.compile(r"a(\d+)(?:&(\w+))?(==|!=|<=|>=|<|>)(\w+)$")
 
@@ -52,7 +54,7 @@ class Here:
         self.has_why = hasattr(self.calls, "ccell_why")
         if self.has_why:
             self.calls.ccell_why.restype = ctypes.c_char_p
-        self.context = None
+        self.context = self.aside = None
 
     def why(self):
         """Why the last call was refused, or what it left out; of libseccomp itself nothing."""
@@ -79,6 +81,19 @@ class Here:
         if self.context:
             self.ask("release")
         self.context = None
+
+    def put_aside(self):
+        """Puts the context aside: the next one is another."""
+        if self.aside:
+            self.calls.seccomp_release(self.aside)
+        self.aside, self.context = self.context, None
+
+    def merge(self):
+        """seccomp_merge of this context into the one that was put aside, which then is the only one."""
+        error = self.calls.seccomp_merge(self.aside, self.context)
+        if not error:
+            self.aside, self.context = None, self.aside
+        return error
 
     def get(self, attribute):
         """seccomp_attr_get: the error, or the value."""
@@ -167,6 +182,14 @@ class Far:
         self.bare("release")
         self.context = False
 
+    def put_aside(self):
+        """Puts the context aside: the next one is another."""
+        self.context = self.bare("put_aside") != 0
+
+    def merge(self):
+        """seccomp_merge of this context into the one that was put aside, which then is the only one."""
+        return self.bare("merge")
+
     def get(self, attribute):
         """seccomp_attr_get: the error, or the value."""
         return self.bare("attr_get", attribute)
@@ -253,6 +276,15 @@ class Library:
     def plain(self, call, *numbers):
         """A call on the context and numbers."""
         return self.at.ask(call, *(action(n) for n in numbers))
+
+    def aside(self):
+        """Puts the context aside."""
+        self.at.put_aside()
+        return 0
+
+    def merge(self):
+        """seccomp_merge into the context that was put aside."""
+        return self.at.merge()
 
     def transaction(self, what):
         """seccomp_transaction_start, commit and reject, of which the last answers nothing."""

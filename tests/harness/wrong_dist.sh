@@ -76,7 +76,7 @@ whole=$(judge | tail -n 1)
 other='s/kit-[0-9a-z]* logic/kit-0 logic/'
 finds 'dist/ccell: not what is built' 'printf "#!/bin/sh\necho yes\n" >ccell'
 finds "'ccell version' has to name" "sed -i '$other' ccell"
-finds 'dist/ask: not what is built' 'printf x | dd of=ask bs=1 seek=4096 conv=notrunc status=none'
+finds 'dist/ask: not what is built' 'tr "\000" "\001" <ask >other && cat other >ask && rm other'
 finds 'dist/libseccomp.so.2: not what is built' 'printf evil >>libseccomp.so.2'
 finds 'dist/aarch64/libseccomp.so.2: not what is built' 'printf x >>aarch64/libseccomp.so.2'
 finds 'dist/kit: built by' "sed -i '1$other' kit"
