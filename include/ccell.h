@@ -55,6 +55,9 @@ extern "C" {
 #define CCELL_X32 0x4000003eu
 #define CCELL_AARCH64 0xc00000b7u
 #define CCELL_ARM 0x40000028u
+#define CCELL_RISCV64 0xc00000f3u
+#define CCELL_PPC64LE 0xc0000015u
+#define CCELL_LOONGARCH64 0xc0000102u
 
 enum ccell_status {
     CCELL_DONE = 0,

@@ -6,10 +6,11 @@
 
 const struct machine MACHINE[MACHINES] = {
     {"x86_64", CCELL_X86_64}, {"x32", CCELL_X32}, {"x86", CCELL_X86}, {"aarch64", CCELL_AARCH64}, {"arm", CCELL_ARM},
+    {"riscv64", CCELL_RISCV64}, {"ppc64le", CCELL_PPC64LE}, {"loongarch64", CCELL_LOONGARCH64},
     {"mips", 0x00000008}, {"mipsel", 0x40000008}, {"mips64", 0x80000008}, {"mipsel64", 0xc0000008},
     {"mips64n32", 0xa0000008}, {"mipsel64n32", 0xe0000008}, {"parisc", 0x0000000f}, {"parisc64", 0x8000000f},
-    {"ppc", 0x00000014}, {"ppc64", 0x80000015}, {"ppc64le", 0xc0000015}, {"s390", 0x00000016}, {"s390x", 0x80000016},
-    {"riscv64", 0xc00000f3}, {"loongarch64", 0xc0000102}, {"m68k", 0x00000004}, {"sh", 0x4000002a}, {"sheb", 0x0000002a}};
+    {"ppc", 0x00000014}, {"ppc64", 0x80000015}, {"s390", 0x00000016}, {"s390x", 0x80000016},
+    {"m68k", 0x00000004}, {"sh", 0x4000002a}, {"sheb", 0x0000002a}};
 
 static const struct { const char *name; int pseudo; } CALLS[] = {
 #include "pseudo.h"
@@ -60,18 +61,17 @@ bool call_has(int machine, int call, uint32_t *number) {
     return true;
 }
 
-/* On x86 libseccomp tells the calls that socketcall and ipc make, too, by the numbers of the header. */
-static bool has_two_ways(int machine, int call) { return machine == X86 && CALLS[call].pseudo > -1000; }
+/* Where socketcall and ipc make a call, too, libseccomp tells it by the number of the header. */
+static bool has_two_ways(int machine, int call) { return WITH_WAYS >> machine & 1 && CALLS[call].pseudo > -1000; }
 
 int call_number(int machine, int call) {
     uint32_t number;
     return !has_two_ways(machine, call) && call_has(machine, call, &number) ? (int)number : CALLS[call].pseudo;
 }
 
-/* The call through which x86 makes this one, too, and the number that its first argument then is: by the numbers of the header,
- * -101 is call 1 of socketcall, and -201 call 1 of ipc. */
+/* By the numbers of the header -101 is call 1 of socketcall, and -201 call 1 of ipc. */
 int other_way(int call, uint64_t *number) {
-    int pseudo = call_number(X86, call);
+    int pseudo = CALLS[call].pseudo;
     *number = (uint64_t)(-pseudo % 100);
     return pseudo > -100 || pseudo <= -300 ? -1 : call_named(pseudo > -200 ? "socketcall" : "ipc");
 }
@@ -108,8 +108,8 @@ API int seccomp_syscall_resolve_name_arch(uint32_t token, const char *name) {
 API int seccomp_syscall_resolve_name(const char *name) { return seccomp_syscall_resolve_name_arch(0, name); }
 
 API int seccomp_syscall_resolve_name_rewrite(uint32_t token, const char *name) {
-    int number = seccomp_syscall_resolve_name_arch(token, name);
-    bool has_another = token == CCELL_X86 && number < -99 && number > -300;
+    int number = seccomp_syscall_resolve_name_arch(token, name), machine = machine_with(token);
+    bool has_another = machine >= 0 && WITH_WAYS >> machine & 1 && number < -99 && number > -300;
     return has_another ? seccomp_syscall_resolve_name_arch(token, number > -200 ? "socketcall" : "ipc") : number;
 }
 

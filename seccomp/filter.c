@@ -5,6 +5,7 @@
 #include <pthread.h>
 #include <sched.h>
 #include <stdlib.h>
+#include <string.h>
 #include <sys/syscall.h>
 #include <linux/seccomp.h>
 #include <unistd.h>
@@ -146,7 +147,8 @@ API unsigned seccomp_api_get(void) {
     unsigned found = level;
     if (found) return found;
     for (found = 1; found < HIGHEST && kernel_has(OF_LEVEL[found - 1]);) found++;
-    return level = found;
+    level = found;
+    return found;
 }
 
 API int seccomp_api_set(unsigned wanted) {
@@ -306,14 +308,12 @@ static int judge_attribute(const struct filter *filter, int attribute, uint32_t 
     case DEFAULT_ACTION: return -EACCES;
     case BAD_MACHINE_ACTION:
         if (judge_action(value)) return -EINVAL;
-        return value == KILL_THREAD ? 0
-            : refuse(-EOPNOTSUPP, "SCMP_FLTATR_ACT_BADARCH: calls of other machines get KILL_THREAD, and not %s", action_text(value).is);
+        return value == NOTIFY ? judge_notify(filter->now.attributes[ALL_THREADS]) : 0;
     case ALL_THREADS: return seccomp_api_get() < 2 ? -EOPNOTSUPP : value && filter->notifies ? judge_notify(true) : 0;
-    case RULES_FOR_SKIPPED: return value ? refuse(-EOPNOTSUPP, "SCMP_FLTATR_API_TSKIP: there are no rules for call -1") : 0;
     case LOG_REFUSED: return seccomp_api_get() < 3 ? -EOPNOTSUPP : 0;
     case NO_SSB_MITIGATION: return seccomp_api_get() < 4 ? -EOPNOTSUPP : 0;
     case OPTIMIZE: return value == 1 || value == 2 ? 0 : -EOPNOTSUPP;
-    case NO_NEW_PRIVS: case ERRORS_OF_SYSTEM: case WAIT_KILL: return 0;
+    case NO_NEW_PRIVS: case RULES_FOR_SKIPPED: case ERRORS_OF_SYSTEM: case WAIT_KILL: return 0;
     }
     return -EINVAL;
 }
@@ -325,6 +325,7 @@ API int seccomp_attr_set(scmp_filter_ctx ctx, int attribute, uint32_t value) {
     if (error) return done(filter, error);
     bool is_switch = attribute != BAD_MACHINE_ACTION && attribute != OPTIMIZE;
     filter->now.attributes[attribute] = is_switch ? !!value : value;
+    if (attribute == BAD_MACHINE_ACTION || attribute == RULES_FOR_SKIPPED) filter->length = 0;
     return done(filter, 0);
 }
 
@@ -338,10 +339,12 @@ API int seccomp_transaction_start(const scmp_filter_ctx ctx) {
     return done(filter, 0);
 }
 
-/* What stood when a transaction began, with the machines that were taken away since. */
+/* What stood when a transaction began, with the machines that were taken away since. Attributes stay, as in libseccomp. */
 static void restore(struct filter *filter, unsigned transaction) {
-    drop_rules(filter, filter->before[transaction].count);
-    filter->now = filter->before[transaction];
+    struct state before = filter->before[transaction];
+    drop_rules(filter, before.count);
+    memcpy(before.attributes, filter->now.attributes, sizeof before.attributes);
+    filter->now = before;
     for (size_t i = 0; filter->kept[transaction] && i < filter->now.count; i++)
         filter->rules[i].machines = filter->kept[transaction][i];
     filter->length = 0;

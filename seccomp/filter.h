@@ -4,21 +4,28 @@
 #include "../include/ccell.h"
 #include "interface.h"
 #include <stdbool.h>
+#include <stdio.h>
 
 #define API __attribute__((visibility("default")))
-enum { OURS = 5, MACHINES = 23, MOST_NESTED = 16 };
+enum { OURS = 8, MACHINES = 23, MOST_NESTED = 16 };
 
-/* Machines, those first for which ccell makes filters. A set of these is a mask of five bits. */
+/* Machines, those first for which ccell makes filters. A set of machines is a mask of bits. */
 struct machine { const char *name; uint32_t token; };
 extern const struct machine MACHINE[MACHINES];
-enum { X86_64, X32, X86, AARCH64, ARM }; /* in this order ccell takes the rules of a bundle */
+enum { X86_64, X32, X86, AARCH64, ARM, RISCV64, PPC64LE, LOONGARCH64 }; /* in this order ccell takes the rules of a bundle */
 
 #if defined __x86_64__ && !defined __ILP32__
 enum { NATIVE = X86_64 };
 #elif defined __aarch64__
 enum { NATIVE = AARCH64 };
+#elif defined __riscv && __riscv_xlen == 64
+enum { NATIVE = RISCV64 };
+#elif defined __powerpc64__ && __BYTE_ORDER__ == __ORDER_LITTLE_ENDIAN__
+enum { NATIVE = PPC64LE };
+#elif defined __loongarch__ && __loongarch_grlen == 64
+enum { NATIVE = LOONGARCH64 };
 #else
-#error ccell makes filters for x86-64 and AArch64
+#error ccell makes no filters for this machine
 #endif
 
 int machine_with(uint32_t token); /* its place, or -1 */
@@ -30,13 +37,17 @@ int call_with(int machine, int number);
 const char *call_name(int call);
 int call_number(int machine, int call);        /* as libseccomp tells it */
 bool call_has(int machine, int call, uint32_t *number); /* the machine's own number */
-int other_way(int call, uint64_t *number);              /* on x86: socketcall or ipc, and the number that it is told by */
+
+/* Machines on which socketcall and ipc make some calls, too. Of such a call: which of the two, or -1, and by which number it is told. */
+enum { WITH_WAYS = 1u << X86 | 1u << PPC64LE };
+int other_way(int call, uint64_t *number);
 
 struct rule {
     uint32_t action, machines;
-    int call, number; /* number: where the call has no name */
+    int call, number; /* number: where the call has no name, as SKIPPED */
     unsigned count;
     struct ccell_condition conditions[ARGUMENTS]; /* in the order of arguments */
+    uint32_t left_out; /* machines on which libseccomp leaves it out of socketcall or ipc: `judge_in_ways` */
     size_t before; /* the place of the last rule before it that has its slot, counted from 1 */
 };
 
@@ -86,12 +97,19 @@ const struct rule *whole_rule(const struct filter *filter, int call, int number,
 /* The machines on which a rule counts beside the others. */
 uint32_t counting(const struct filter *filter, const struct rule *rule);
 
+/* Whether arguments have 32 bits. */
+bool is_narrow(int machine);
+/* Whether a machine has the call of a rule, and its number there. */
+bool rule_has(const struct rule *rule, int machine, uint32_t *number);
+
 /* Whether a rule can stand beside those that were added before it: 0, or an error. */
 int judge_rule(const struct filter *filter, const struct rule *rule);
-/* On x86: the call, socketcall or ipc, that makes the call of a rule, too, with the number that its first argument then is; or -1. */
-int way_of(const struct rule *rule, uint64_t *first);
-/* What a rule without conditions says of that call. */
-struct rule rule_of_way(const struct filter *filter, const struct rule *rule, int way, uint64_t first);
+/* Whether libseccomp, on these machines, takes what it makes of the rule for socketcall and ipc: 0, or an error. */
+int judge_in_ways(const struct filter *filter, struct rule *rule, uint32_t machines);
+/* The call, socketcall or ipc, that makes the call of a rule on a machine, too, with the number that its first argument then is; or -1. */
+int way_of(const struct rule *rule, int machine, uint64_t *first);
+/* What a rule without conditions says of that call there. */
+struct rule rule_of_way(const struct filter *filter, const struct rule *rule, int machine, int way, uint64_t first);
 
 /* Whether rules settle each other as in libseccomp: of a call's rules on a machine the first one without conditions counts alone. */
 extern bool settles;
@@ -105,6 +123,18 @@ void forget_why(void); /* at the begin of each call of the interface */
 struct text { char is[512]; };
 struct text action_text(uint32_t action);
 struct text rule_text(const struct rule *rule);
+
+/* Writes what stands in front of ccell's filter, where calls of other machines get another action than KILL_THREAD: how many bytes. */
+size_t write_lead(const struct filter *filter, uint8_t *to);
+/* Whether ccell's filter means the same behind that as alone: its first instruction is for what the registers held. 0, or an error. */
+int judge_lead(const uint8_t *filter);
+
+/* Rules as ccell takes them, and of which one that was added each is: 0, or -ENOMEM. */
+struct list { struct ccell_rule *rules; size_t *of, count, room; };
+int write_rules(const struct filter *filter, struct list *list);
+void free_list(struct list *list);
+/* Prints them for people: 0, or -ENOMEM. */
+int print_filter(FILE *to, const struct filter *filter);
 
 /* Makes the filter of what was asked for: 0, or an error of libseccomp. */
 int make(struct filter *filter);

@@ -28,5 +28,6 @@ struct scmp_arg_cmp { unsigned arg; int op; uint64_t datum_a, datum_b; };
 #define ACTION 0xffff0000u /* the bits of an action; those below are its data */
 
 enum { NO_SUCH_CALL = -1 }; /* __NR_SCMP_ERROR */
+enum { SKIPPED = -1 };      /* the number of a call that a tracer skips */
 enum { ARGUMENTS = 6 };
 #endif

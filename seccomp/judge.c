@@ -1,6 +1,7 @@
 /* What can be wrong with a rule, by itself and beside those that were added before it. */
 #include "filter.h"
 #include <errno.h>
+#include <string.h>
 
 /* ---- whether one call matches two rules */
 
@@ -43,12 +44,19 @@ static bool can_be_met(const struct rule *rule, const struct rule *beside, uint6
     return true;
 }
 
-static bool has_call(int machine, const struct rule *rule) {
-    uint32_t number;
-    return rule->call < 0 ? machine == NATIVE : call_has(machine, rule->call, &number);
+/* Of the two machines with one token x86-64 has the number of a call that was skipped. */
+bool rule_has(const struct rule *rule, int machine, uint32_t *number) {
+    if (rule->call >= 0) return call_has(machine, rule->call, number);
+    *number = (uint32_t)rule->number;
+    return rule->number == SKIPPED ? machine != X32 : machine == NATIVE;
 }
 
-static bool is_narrow(int machine) { return machine == X86 || machine == ARM; }
+static bool has_call(int machine, const struct rule *rule) {
+    uint32_t number;
+    return rule_has(rule, machine, &number);
+}
+
+bool is_narrow(int machine) { return machine == X86 || machine == ARM; }
 
 /* The first machine on which one call matches both rules, which are for the same call; or -1. */
 static int machine_of_both(const struct rule *a, const struct rule *b) {
@@ -74,56 +82,125 @@ static int judge_overlaps(const struct filter *filter, const struct rule *rule, 
     return 0;
 }
 
-/* ---- what libseccomp adds on x86 */
+/* ---- what libseccomp adds on x86 and ppc64le */
 
-int way_of(const struct rule *rule, uint64_t *first) {
-    return rule->call >= 0 && rule->machines >> X86 & 1 ? other_way(rule->call, first) : -1;
+int way_of(const struct rule *rule, int machine, uint64_t *first) {
+    return rule->call >= 0 && rule->machines & WITH_WAYS & 1u << machine ? other_way(rule->call, first) : -1;
 }
 
-/* Of ipc's number Linux reads 16 bits. A rule that is looser than the default is for the number alone, and any other for each that Linux
- * takes for it. */
-struct rule rule_of_way(const struct filter *filter, const struct rule *rule, int way, uint64_t first) {
+/* Of ipc's number Linux reads 16 bits, and of socketcall's 32. A rule that is looser than the default is for the number alone, and any
+ * other for each that Linux takes for it. */
+static struct ccell_condition condition_of_way(bool is_looser, int machine, int way, uint64_t first) {
+    bool is_ipc = way == call_named("ipc");
+    if (is_looser || (!is_ipc && is_narrow(machine))) return (struct ccell_condition){0, CCELL_EQ, first, 0};
+    return (struct ccell_condition){0, CCELL_MASKED_EQ, is_ipc ? 0xffff : UINT32_MAX, first};
+}
+
+struct rule rule_of_way(const struct filter *filter, const struct rule *rule, int machine, int way, uint64_t first) {
     bool is_looser = (int32_t)(rule->action & ACTION) > (int32_t)(filter->now.attributes[DEFAULT_ACTION] & ACTION);
-    struct rule made = {.action = rule->action, .machines = 1u << X86, .call = way, .count = 1};
-    made.conditions[0] = is_looser || way != call_named("ipc") ? (struct ccell_condition){0, CCELL_EQ, first, 0}
-        : (struct ccell_condition){0, CCELL_MASKED_EQ, 0xffff, first};
-    return made;
+    return (struct rule){.action = rule->action, .machines = 1u << machine, .call = way, .count = 1,
+                         .conditions = {condition_of_way(is_looser, machine, way, first)}};
 }
 
-static int contradicts_way(const struct rule *rule, const struct rule *whole) {
-    return refuse(-EEXIST, "%s: on x86 it contradicts %s, of which all get %s", rule_text(rule).is, call_name(whole->call),
-                  action_text(whole->action).is);
+static int contradicts_way(const struct rule *rule, const struct rule *whole, int machine) {
+    return refuse(-EEXIST, "%s: on %s it contradicts %s, of which all get %s", rule_text(rule).is, MACHINE[machine].name,
+                  call_name(whole->call), action_text(whole->action).is);
 }
 
 /* Whether the rule can also be for socketcall or ipc. Where a rule before it says what becomes of all of these, that one counts. Conditions
  * speak of arguments that socketcall has behind a pointer: a rule that lets calls through is not added there, and any other refused. */
-static int judge_way(const struct filter *filter, const struct rule *rule) {
+static int judge_way(const struct filter *filter, const struct rule *rule, int machine) {
     uint64_t first;
-    int way = way_of(rule, &first);
+    int way = way_of(rule, machine, &first);
     if (way < 0) return 0;
-    const struct rule *whole = whole_rule(filter, way, 0, X86);
-    if (whole) return settles || whole->action == rule->action ? 0 : contradicts_way(rule, whole);
+    const struct rule *whole = whole_rule(filter, way, 0, machine);
+    if (whole) return settles || whole->action == rule->action ? 0 : contradicts_way(rule, whole, machine);
     if (!rule->count) {
-        struct rule other = rule_of_way(filter, rule, way, first);
+        struct rule other = rule_of_way(filter, rule, machine, way, first);
         return judge_overlaps(filter, &other, rule);
     }
     if (has_more_rights(rule->action, filter->now.attributes[DEFAULT_ACTION])) return 0;
-    return refuse(-EDOM, "%s: on x86 %s makes this call, too, and no filter sees its arguments", rule_text(rule).is, call_name(way));
+    return refuse(-EDOM, "%s: on %s %s makes this call, too, and no filter sees its arguments", rule_text(rule).is, MACHINE[machine].name,
+                  call_name(way));
 }
 
 /* Whether a rule for socketcall or ipc itself can stand beside what the rules before it say of these. */
-static int judge_calls_of_way(const struct filter *filter, const struct rule *rule) {
-    if (!(rule->machines >> X86 & 1) || (rule->call != call_named("socketcall") && rule->call != call_named("ipc"))) return 0;
+static int judge_calls_of_way(const struct filter *filter, const struct rule *rule, int machine) {
+    if (!(rule->machines >> machine & 1) || (rule->call != call_named("socketcall") && rule->call != call_named("ipc"))) return 0;
     if (!rule->count && settles) return 0;
     for (size_t i = 0; i < filter->now.count; i++) {
         const struct rule *old = &filter->rules[i];
         uint64_t first;
-        if (old->action == rule->action || way_of(old, &first) != rule->call) continue;
-        if (!rule->count) return contradicts_way(old, rule);
-        struct rule other = rule_of_way(filter, old, rule->call, first);
-        if (!old->count && machine_of_both(&other, rule) >= 0) return contradicts(rule, old, X86);
+        if (old->action == rule->action || way_of(old, machine, &first) != rule->call) continue;
+        if (!rule->count) return contradicts_way(old, rule, machine);
+        struct rule other = rule_of_way(filter, old, machine, rule->call, first);
+        if (!old->count && machine_of_both(&other, rule) >= 0) return contradicts(rule, old, machine);
     }
     return 0;
+}
+
+static int judge_ways(const struct filter *filter, const struct rule *rule) {
+    int error = 0;
+    for (int machine = 0; !error && machine < OURS; machine++)
+        if (WITH_WAYS >> machine & 1) error = judge_way(filter, rule, machine);
+    for (int machine = 0; !error && machine < OURS; machine++)
+        if (WITH_WAYS >> machine & 1) error = judge_calls_of_way(filter, rule, machine);
+    return error;
+}
+
+/* ---- what libseccomp refuses there
+
+   It makes of a rule one for socketcall or ipc, in which the number stands in place of what the rule says of argument 0. If two of them
+   begin alike, and the later one goes on, that is left out. If it does not go on, and has another action, it is refused. */
+
+/* What is said of further arguments: the conditions from the second argument on, without those that hold of each number. */
+static unsigned list_further(const struct rule *rule, int machine, const struct ccell_condition *listed[ARGUMENTS]) {
+    uint64_t greatest = is_narrow(machine) ? UINT32_MAX : UINT64_MAX;
+    unsigned count = 0;
+    for (unsigned i = 0; i < rule->count; i++) {
+        const struct ccell_condition *each = &rule->conditions[i];
+        bool is_empty = each->operator_ == CCELL_MASKED_EQ && !(each->value & greatest);
+        if (each->argument && !is_empty) listed[count++] = each;
+    }
+    return count;
+}
+
+enum { APART, FIRST_GOES_ON = 1, SECOND_GOES_ON = 2, ALIKE = 3 };
+
+/* How the two begin there: not alike, or as far as the shorter one goes. */
+static int beginning(const struct rule *first, const struct rule *second, int machine) {
+    const struct ccell_condition *of_first[ARGUMENTS], *of_second[ARGUMENTS];
+    unsigned count = list_further(first, machine, of_first), other = list_further(second, machine, of_second);
+    for (unsigned i = 0; i < count && i < other; i++)
+        if (memcmp(of_first[i], of_second[i], sizeof **of_first)) return APART;
+    return count > other ? FIRST_GOES_ON : count < other ? SECOND_GOES_ON : ALIKE;
+}
+
+static int judge_in_way(const struct filter *filter, struct rule *rule, int machine) {
+    uint64_t first;
+    int way = rule->call < 0 ? -1 : other_way(rule->call, &first);
+    const struct rule *unlike = NULL;
+    if (way < 0 || whole_rule(filter, way, 0, machine)) return 0; /* the rule for all of them counts alone */
+    for (size_t at = 0; (at = rule_before(filter, rule->call, rule->number, at));) {
+        const struct rule *old = &filter->rules[at - 1];
+        if (!((old->machines & ~old->left_out) >> machine & 1)) continue;
+        int how = beginning(old, rule, machine);
+        if (how == SECOND_GOES_ON) {
+            rule->left_out |= 1u << machine;
+            return 0;
+        }
+        if (how != APART && old->action != rule->action) unlike = old;
+    }
+    if (!unlike) return 0;
+    return refuse(-EEXIST, "%s contradicts %s for %s on %s, whose argument 0 is another", rule_text(rule).is, rule_text(unlike).is,
+                  call_name(way), MACHINE[machine].name);
+}
+
+int judge_in_ways(const struct filter *filter, struct rule *rule, uint32_t machines) {
+    int error = 0;
+    for (int machine = 0; !error && machine < OURS; machine++)
+        if (machines & WITH_WAYS & 1u << machine) error = judge_in_way(filter, rule, machine);
+    return error;
 }
 
 /* ---- all of it */
@@ -147,7 +224,5 @@ int judge_rule(const struct filter *filter, const struct rule *rule) {
     bool settles_all = settles && !rule->count; /* of this call, on its machines */
     int error = judge_width(rule);
     if (!error && !settles_all) error = judge_overlaps(filter, rule, rule);
-    if (!error) error = judge_way(filter, rule);
-    if (!error) error = judge_calls_of_way(filter, rule);
-    return error;
+    return error ? error : judge_ways(filter, rule);
 }

@@ -55,14 +55,6 @@ API int seccomp_precompute(const scmp_filter_ctx ctx) {
     return filter ? done(filter, make(filter)) : -EINVAL;
 }
 
-/* What is read by people: a line for each machine and each rule, as it was added. */
-static void list_rules(const struct filter *filter, FILE *to) {
-    fprintf(to, "# rules as they were added, for ccell\ndefault %s\n", action_text(filter->now.attributes[DEFAULT_ACTION]).is);
-    for (int i = 0; i < MACHINES; i++)
-        if (filter->now.machines >> i & 1) fprintf(to, "machine %s\n", MACHINE[i].name);
-    for (size_t i = 0; i < filter->now.count; i++) fprintf(to, "%s\n", rule_text(&filter->rules[i]).is);
-}
-
 API int seccomp_export_pfc(const scmp_filter_ctx ctx, int fd) {
     struct filter *filter = take(ctx);
     char *text = NULL;
@@ -70,8 +62,7 @@ API int seccomp_export_pfc(const scmp_filter_ctx ctx, int fd) {
     if (!filter) return -EINVAL;
     FILE *to = open_memstream(&text, &length);
     if (!to) return done(filter, -ENOMEM);
-    list_rules(filter, to);
-    bool is_whole = !ferror(to);
+    bool is_whole = !print_filter(to, filter) && !ferror(to);
     is_whole = !fclose(to) && is_whole;
     int error = is_whole ? write_copy(filter, fd, text, length) : done(filter, -ENOMEM);
     free(text);

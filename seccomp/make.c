@@ -7,9 +7,6 @@
 #include <sys/mman.h>
 #include <ucontext.h>
 
-/* Rules as ccell takes them, and of which one that was added each is. */
-struct list { struct ccell_rule *rules; size_t *of, count, room; };
-
 static int push(struct list *list, const struct ccell_rule *rule, size_t of) {
     if (list->count == list->room) {
         size_t room = list->room ? 2 * list->room : 512;
@@ -27,39 +24,53 @@ static int push(struct list *list, const struct ccell_rule *rule, size_t of) {
 
 /* Writes a rule for one machine, if that has the call. */
 static int write_for(struct list *list, const struct rule *rule, int machine, size_t of) {
-    uint32_t number = (uint32_t)rule->number;
-    if (rule->call >= 0 && !call_has(machine, rule->call, &number)) return 0;
+    uint32_t number;
+    if (!rule_has(rule, machine, &number)) return 0;
     struct ccell_rule written = {MACHINE[machine].token, number, rule->action, rule->count, {{0, 0, 0, 0}}};
     memcpy(written.conditions, rule->conditions, sizeof rule->conditions);
     return push(list, &written, of);
 }
 
-/* Writes what the rule says of socketcall or ipc on x86, as libseccomp does, or reports that it does not count for these: where a rule
- * says what becomes of all of these, that one counts, and conditions speak of arguments that socketcall has behind a pointer. */
-static int write_way(const struct filter *filter, struct list *list, const struct rule *rule, size_t of) {
+/* Writes what the rule says of socketcall or ipc on a machine, as libseccomp does, or reports that it does not count for these: where a
+ * rule says what becomes of all of these, that one counts, and conditions speak of arguments that socketcall has behind a pointer. */
+static int write_way(const struct filter *filter, struct list *list, const struct rule *rule, int machine, size_t of) {
     uint64_t first;
-    int way = way_of(rule, &first);
+    int way = way_of(rule, machine, &first);
     if (way < 0) return 0;
-    const struct rule *whole = whole_rule(filter, way, 0, X86);
+    const char *on = MACHINE[machine].name;
+    const struct rule *whole = whole_rule(filter, way, 0, machine);
     if (whole && whole->action == rule->action) return 0;
     if (whole)
-        return refuse(0, "%s: on x86 it does not count for %s, of which all get %s", rule_text(rule).is, call_name(way),
+        return refuse(0, "%s: on %s it does not count for %s, of which all get %s", rule_text(rule).is, on, call_name(way),
                       action_text(whole->action).is);
-    if (rule->count) return refuse(0, "%s: on x86 it does not count for %s, whose arguments no filter sees", rule_text(rule).is, call_name(way));
-    struct rule other = rule_of_way(filter, rule, way, first);
-    return write_for(list, &other, X86, of);
+    if (rule->count)
+        return refuse(0, "%s: on %s it does not count for %s, whose arguments no filter sees", rule_text(rule).is, on, call_name(way));
+    struct rule other = rule_of_way(filter, rule, machine, way, first);
+    return write_for(list, &other, machine, of);
 }
 
 static int write_rule(const struct filter *filter, size_t place, struct list *list) {
     const struct rule *rule = &filter->rules[place];
-    uint32_t machines = counting(filter, rule);
+    bool is_off = rule->call < 0 && rule->number == SKIPPED && !filter->now.attributes[RULES_FOR_SKIPPED]; /* as in libseccomp */
+    uint32_t machines = is_off ? 0 : counting(filter, rule);
     int error = 0;
     for (int machine = 0; !error && machine < OURS; machine++) {
         if (!(machines >> machine & 1)) continue;
-        if (machine == X86) error = write_way(filter, list, rule, place);
+        error = write_way(filter, list, rule, machine, place);
         if (!error) error = write_for(list, rule, machine, place);
     }
     return error;
+}
+
+int write_rules(const struct filter *filter, struct list *list) {
+    int error = 0;
+    for (size_t place = 0; !error && place < filter->now.count; place++) error = write_rule(filter, place, list);
+    return error;
+}
+
+void free_list(struct list *list) {
+    free(list->rules);
+    free(list->of);
 }
 
 /* ---- the filter */
@@ -73,12 +84,12 @@ static int tell(const struct filter *filter, const struct list *list, uint32_t s
     switch (status) {
     case CCELL_DONE: return 0;
     case CCELL_NO_MEMORY: return -ENOMEM;
-    case CCELL_NATIVE_MISSING: return refuse(-EOPNOTSUPP, "the machine itself is not among those of the filter");
+    case CCELL_NO_NATIVE: return refuse(-EOPNOTSUPP, "ccell knows none of the machines of the filter");
     case CCELL_OVERLAP:
         return refuse(-EEXIST, "%s contradicts %s on %s", named(filter, list, at->first).is, named(filter, list, at->second).is,
                       MACHINE[machine_with(list->rules[at->first].machine)].name);
     case CCELL_TOO_MANY: return refuse(-EINVAL, "there are more than 8192 rules");
-    case CCELL_NO_FILTER: return refuse(-EINVAL, "the filter would be longer than a kernel takes");
+    case CCELL_NO_ROOM: case CCELL_NO_FILTER: return refuse(-EINVAL, "the filter would be longer than a kernel takes");
     case CCELL_NO_RULE: return refuse(-EINVAL, "%s: no rule of ccell", named(filter, list, at->first).is);
     }
     return refuse(-EFAULT, "status %u of ccell", status);
@@ -89,6 +100,7 @@ enum { STACK = 1 << 20 };
 struct question {
     const struct filter *filter;
     const struct list *list;
+    size_t lead; /* bytes in front of it */
     struct ccell_told at;
     uint32_t status;
 };
@@ -101,13 +113,15 @@ static void answer(unsigned low, unsigned high) {
     size_t count = 0;
     for (int i = 0; i < OURS; i++)
         if (now->machines >> i & 1) machines[count++] = MACHINE[i].token;
-    of->status = ccell_filter_for_rules(MACHINE[NATIVE].token, now->attributes[DEFAULT_ACTION], machines, count,
-                                        of->list->count ? of->list->rules : &none, of->list->count, of->filter->bytes,
-                                        CCELL_MOST_BYTES, &of->at);
+    /* What a filter answers is the same whichever of its machines stands for the native one. */
+    uint32_t native = now->machines >> NATIVE & 1 ? MACHINE[NATIVE].token : count ? machines[0] : 0;
+    of->status = ccell_filter_for_rules(native, now->attributes[DEFAULT_ACTION], machines, count,
+                                        of->list->count ? of->list->rules : &none, of->list->count, of->filter->bytes + of->lead,
+                                        CCELL_MOST_BYTES - of->lead, &of->at);
 }
 
 static int ask(struct filter *filter, const struct list *list) {
-    struct question of = {filter, list, {0, 0, 0}, CCELL_NO_MEMORY};
+    struct question of = {filter, list, write_lead(filter, filter->bytes), {0, 0, 0}, CCELL_NO_MEMORY};
     ucontext_t here, there;
     void *stack = mmap(NULL, STACK, PROT_READ | PROT_WRITE, MAP_PRIVATE | MAP_ANONYMOUS | MAP_STACK, -1, 0);
     if (stack == MAP_FAILED) return -ENOMEM;
@@ -120,19 +134,18 @@ static int ask(struct filter *filter, const struct list *list) {
         is_switched = !swapcontext(&here, &there);
     }
     munmap(stack, STACK);
-    filter->length = is_switched && of.status == CCELL_DONE ? of.at.count : 0;
-    return is_switched ? tell(filter, list, of.status, &of.at) : -EFAULT;
+    int error = is_switched ? tell(filter, list, of.status, &of.at) : -EFAULT;
+    if (!error && of.lead) error = judge_lead(filter->bytes + of.lead);
+    filter->length = error ? 0 : of.lead + of.at.count;
+    return error;
 }
 
 int make(struct filter *filter) {
     struct list list = {NULL, NULL, 0, 0};
-    int error = 0;
     if (filter->length) return 0;
     if (!filter->bytes && !(filter->bytes = malloc(CCELL_MOST_BYTES))) return -ENOMEM;
-    for (size_t i = 0; !error && i < filter->now.count; i++)
-        error = write_rule(filter, i, &list);
+    int error = write_rules(filter, &list);
     if (!error) error = ask(filter, &list);
-    free(list.rules);
-    free(list.of);
+    free_list(&list);
     return error;
 }

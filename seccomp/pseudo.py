@@ -1,5 +1,5 @@
 #!/usr/bin/env python3
-"""Writes pseudo.h: pseudo.py docs/linux-calls.txt /usr/include/seccomp-syscalls.h > seccomp/pseudo.h
+"""Writes pseudo.h, with the header of libseccomp 2.6: pseudo.py docs/linux-calls.txt seccomp-syscalls.h > seccomp/pseudo.h
 
 A row for each call, in the order of names: its name, and the negative number by which libseccomp's header names it where the
 native machine lacks it. A call that this header does not know gets one of its own, below all of those."""

@@ -112,13 +112,19 @@ static int find_same(const struct filter *filter, const struct rule *rule) {
     return answer;
 }
 
-static int append(struct filter *filter, struct rule *rule) {
+/* Leaves a rule those machines on which it counts. The answer is whether it is new there, or an error. */
+static int judge(const struct filter *filter, struct rule *rule) {
+    uint32_t machines = rule->machines;
     rule->machines = counting(filter, rule);
-    if (!rule->machines) return 0;
-    int found = find_same(filter, rule);
-    if (found) return found < 0 ? found : 0;
-    int error = judge_rule(filter, rule);
-    if (error) return error;
+    int found = rule->machines ? find_same(filter, rule) : 1;
+    int error = found < 0 ? found : found ? 0 : judge_rule(filter, rule);
+    if (!error) error = judge_in_ways(filter, rule, machines);
+    return error ? error : !found;
+}
+
+static int append(struct filter *filter, struct rule *rule) {
+    int is_new = judge(filter, rule);
+    if (is_new <= 0) return is_new;
     if (filter->now.count == filter->room && grow(filter)) return -ENOMEM;
     filter->rules[filter->now.count] = *rule;
     enter(filter, filter->now.count++);
@@ -130,15 +136,20 @@ static bool one_has(uint32_t machines, int call) {
     uint32_t number;
     uint64_t told;
     if (machines >> OURS) return true; /* of those no calls are known */
-    if (machines >> X86 & 1 && other_way(call, &told) >= 0) return true;
+    if (machines & WITH_WAYS && other_way(call, &told) >= 0) return true;
     for (int i = 0; i < OURS; i++)
         if (machines >> i & 1 && call_has(i, call, &number)) return true;
     return false;
 }
 
+/* Whether the number stands for no call. */
+static bool is_none(const struct filter *filter, int number) {
+    return number <= -1 && number >= -99 && !(number == SKIPPED && filter->now.attributes[RULES_FOR_SKIPPED]);
+}
+
 static int add(struct filter *filter, bool exact, uint32_t action, int number, unsigned count, const struct scmp_arg_cmp *args) {
     struct rule rule = {.action = action, .machines = filter->now.machines};
-    if (number <= -1 && number >= -99) return -EINVAL;
+    if (is_none(filter, number)) return -EINVAL;
     int error = judge_action(action);
     if (!error && action == NOTIFY) error = judge_notify(filter->now.attributes[ALL_THREADS]);
     if (error) return error;
@@ -147,7 +158,9 @@ static int add(struct filter *filter, bool exact, uint32_t action, int number, u
     if (exact && !is_alone) return -EOPNOTSUPP;
     if ((error = read_conditions(&rule, count, args))) return error;
     rule.call = call_with(NATIVE, number);
-    if (rule.call < 0) {
+    if (rule.call < 0 && number == SKIPPED) {
+        rule.number = number; /* on each machine */
+    } else if (rule.call < 0) {
         rule.number = number;
         if (rule.machines != 1u << NATIVE) return -EFAULT; /* without a name it has no number elsewhere */
         if (number < 0) return exact ? -EDOM : 0;          /* a call that this machine lacks */
@@ -155,7 +168,8 @@ static int add(struct filter *filter, bool exact, uint32_t action, int number, u
         return exact ? -EDOM : 0; /* no machine that is listed has the call */
     }
     uint64_t first;
-    if (exact && rule.count && way_of(&rule, &first) >= 0) return -EINVAL; /* as libseccomp: x86 has a way without these arguments */
+    if (exact && rule.count && rule.call >= 0 && rule.machines & WITH_WAYS && other_way(rule.call, &first) >= 0)
+        return -EINVAL; /* as libseccomp: the machine has a way without these arguments */
     return append(filter, &rule);
 }
 
@@ -201,5 +215,5 @@ API int seccomp_rule_add_exact(scmp_filter_ctx ctx, uint32_t action, int number,
 API int seccomp_syscall_priority(scmp_filter_ctx ctx, int number, uint8_t priority) {
     (void)priority; /* where a call stands in the filter is ccell's to choose */
     struct filter *filter = take(ctx);
-    return filter ? done(filter, number <= -1 && number >= -99 ? -EINVAL : 0) : -EINVAL;
+    return filter ? done(filter, is_none(filter, number) ? -EINVAL : 0) : -EINVAL;
 }

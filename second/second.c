@@ -38,8 +38,9 @@ static void read_file(const char *name) {
 }
 
 /* ---- The profile ---- */
-enum { MACHINES = 7, X86_64 = 2, X32 = 3, OPERATORS = 7, LT = 0, LE, GE, GT, EQ, NE, MASKED_EQ };
-static const char *const machine_names[] = {"x86-64", "aarch64", "linux-x86-64", "linux-x32", "linux-x86", "linux-aarch64", "linux-arm"};
+enum { MACHINES = 10, X86_64 = 2, X32 = 3, OPERATORS = 7, LT = 0, LE, GE, GT, EQ, NE, MASKED_EQ };
+static const char *const machine_names[] = {"x86-64", "aarch64", "linux-x86-64", "linux-x32", "linux-x86", "linux-aarch64", "linux-arm",
+                                            "linux-riscv64", "linux-ppc64le", "linux-loongarch64"};
 static const char *const argument_names[] = {"arg0", "arg1", "arg2", "arg3", "arg4", "arg5"};
 static const char *const operator_names[] = {"LT", "LE", "GE", "GT", "EQ", "NE", "MASKED_EQ"};
 static struct machine {
@@ -54,6 +55,9 @@ static struct machine {
     {0x40000003, true, true, false, {1, {0}, {ALL}}, {0}},
     {0xc00000b7, true, false, false, {1, {0}, {ALL}}, {0}},
     {0x40000028, true, true, false, {1, {0}, {ALL}}, {0}},
+    {0xc00000f3, true, false, false, {1, {0}, {ALL}}, {0}},
+    {0xc0000015, true, false, false, {1, {0}, {ALL}}, {0}},
+    {0xc0000102, true, false, false, {1, {0}, {ALL}}, {0}},
 };
 /* An argument is in a range and has data under a mask; or, by NE, it is not the data. */
 struct condition { unsigned argument; bool is_order, is_not; uint64_t low, high, mask, data; };

@@ -47,27 +47,44 @@ static void tell(int came, int wanted, const char *what) {
     wrong++;
 }
 
-/* How a child ends that loads a filter and then makes a call. */
-static int ended(uint32_t action, uint32_t of_rule, int call, int made) {
+enum { NO_CALL = -2 };
+
+/* How a child ends that sets an attribute, adds a rule, loads the filter and then makes a call. */
+static int ended_with(int attribute, uint32_t value, uint32_t action, uint32_t of_rule, int call, long made) {
     int status;
     pid_t child = fork();
     if (!child) {
         scmp_filter_ctx ctx = seccomp_init(action);
-        if (call >= 0 && seccomp_rule_add_array(ctx, of_rule, call, 0, NULL)) syscall(SYS_exit_group, 100);
+        if (attribute && seccomp_attr_set(ctx, attribute, value)) syscall(SYS_exit_group, 102);
+        if (call != NO_CALL && seccomp_rule_add_array(ctx, of_rule, call, 0, NULL)) syscall(SYS_exit_group, 100);
         if (seccomp_load(ctx)) syscall(SYS_exit_group, 101);
         errno = 0;
-        if (made >= 0) syscall(made);
+        if (made != NO_CALL) syscall(made);
         syscall(SYS_exit_group, errno);
     }
     waitpid(child, &status, 0);
     return WIFSIGNALED(status) ? -WTERMSIG(status) : WEXITSTATUS(status);
 }
 
+static int ended(uint32_t action, uint32_t of_rule, int call, long made) { return ended_with(0, 0, action, of_rule, call, made); }
+
 static void loads(void) {
-    tell(ended(KILL_PROCESS, ALLOW, SYS_exit_group, -1), 0, "a load with nothing but exit_group"); /* no call after it */
+    tell(ended(KILL_PROCESS, ALLOW, SYS_exit_group, NO_CALL), 0, "a load with nothing but exit_group"); /* no call after it */
     tell(ended(ALLOW, KILL_PROCESS, SYS_getppid, SYS_getpid), 0, "a call that is allowed");
     tell(ended(ALLOW, KILL_PROCESS, SYS_getppid, SYS_getppid), -SIGSYS, "a call that is killed");
     tell(ended(ALLOW, ERRNO | 77, SYS_getppid, SYS_getppid), 77, "a call that answers 77");
+    tell(ended(ALLOW, ERRNO | 77, NO_CALL, -1), ENOSYS, "call -1");
+    tell(ended_with(RULES_FOR_SKIPPED, 1, ALLOW, ERRNO | 77, -1, -1), 77, "call -1, which has a rule");
+    tell(ended_with(RULES_FOR_SKIPPED, 1, ALLOW, ERRNO | 77, -1, SYS_getppid), 0, "another call");
+    tell(ended_with(BAD_MACHINE_ACTION, ERRNO | 77, ALLOW, ERRNO | 78, SYS_getppid, SYS_getppid), 78, "a call of this machine");
+    tell(ended_with(BAD_MACHINE_ACTION, ERRNO | 77, ALLOW, ERRNO | 78, SYS_getppid, -1), ENOSYS, "call -1 of this machine");
+#ifdef __x86_64__
+    enum { X32_GETPID = 0x40000000 | SYS_getpid };
+    tell(ended(ALLOW, 0, NO_CALL, X32_GETPID), -SIGSYS, "a call of x32");
+    tell(ended_with(BAD_MACHINE_ACTION, ERRNO | 77, ALLOW, 0, NO_CALL, X32_GETPID), 77, "a call of x32 that answers 77");
+    int allowed = ended_with(BAD_MACHINE_ACTION, ALLOW, KILL_PROCESS, ALLOW, SYS_exit_group, X32_GETPID);
+    tell(allowed == 0 || allowed == ENOSYS, 1, "a call of x32 that is allowed"); /* the kernel may have none */
+#endif
 }
 
 static void descriptors(void) {

@@ -14,7 +14,6 @@ from harness.limits import ENDLESS
 from harness.rows import Fault
 
 HERE = os.path.dirname(os.path.abspath(__file__))
-MEMORY = 2048
 # Where Debian's packages have a kernel.
 IMAGES = ("*/boot/vmlinu?-*", "*/lib/modules/*/vmlinuz")
 # What every kernel is told: nothing is logged on the console but what the first process writes, and what slows an emulator down is left
@@ -27,11 +26,12 @@ def images(folder):
     return [path for name in IMAGES for path in glob.glob(f"{folder}/kernel/{name}".replace("*/", "**/", 1), recursive=True)]
 
 
-def prepare(kernel, packages, folder):
-    """Unpacks the kernel and the tools of a guest into its folder, unless they are there."""
+def prepare(kernel, packages, folder, image=None):
+    """Unpacks the kernel and the tools of a guest into its folder, unless they are there. `image` is the kernel's package, if it is to be
+    another one than the newest."""
     if not images(folder):
         wanted = [*IMAGES, *(f"*/lib/modules/*/kernel/{name}.ko*" for name in MODULES)]
-        for name in packages.kernel_of(kernel.image):
+        for name in packages.kernel_of(image or kernel.image):
             unpack_files(packages.alone(name), f"{folder}/kernel", wanted)
     if not os.path.exists(f"{folder}/tools/usr/bin/busybox"):
         unpack_files(packages.alone("busybox-static"), f"{folder}/tools", ["*/usr/bin/busybox"])
@@ -77,7 +77,7 @@ class Guest:
         """What is called to boot it."""
         kernel, bus = self.kernel, self.kernel.bus
         return [
-            kernel.emulator, *kernel.board, "-accel", "tcg,thread=single", "-smp", "1", "-m", str(MEMORY),
+            kernel.emulator, *kernel.board, "-accel", "tcg,thread=single", "-smp", "1", "-m", str(kernel.memory),
             "-nographic", "-nodefaults", "-no-reboot", "-serial", "stdio",
             "-kernel", images(self.folder)[0], "-initrd", f"{self.folder}/first.gz",
             "-append", f"console={kernel.console} {TOLD} {kernel.further}",

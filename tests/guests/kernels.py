@@ -16,6 +16,7 @@ class Kernel:
     programs: tuple  # the machines whose programs it runs, each with its compiler and the packages of that
     further: str = ""  # what the kernel is told besides
     library: str = ""  # the folder of dist/ with our libseccomp.so.2 for it
+    memory: int = 1024  # megabytes
 
 
 KERNELS = {
@@ -33,6 +34,27 @@ KERNELS = {
         ),
         further="kpti=0",
         library="aarch64",
+        memory=2048,
+    ),
+    "riscv64": Kernel(
+        debian="riscv64",
+        image="linux-image-riscv64",
+        emulator="qemu-system-riscv64",
+        comes_with="qemu-system-misc opensbi",
+        board=("-M", "virt"),
+        console="ttyS0",
+        bus="pci",
+        programs=(("riscv64", "riscv64-linux-gnu-gcc", "gcc-riscv64-linux-gnu libc6-dev-riscv64-cross"),),
+    ),
+    "ppc64el": Kernel(
+        debian="ppc64el",
+        image="linux-image-powerpc64le",
+        emulator="qemu-system-ppc64",
+        comes_with="qemu-system-ppc qemu-slof",
+        board=("-M", "pseries,cap-cfpc=broken,cap-sbbc=broken,cap-ibs=broken", "-cpu", "power9"),
+        console="hvc0",
+        bus="pci",
+        programs=(("ppc64le", "powerpc64le-linux-gnu-gcc", "gcc-powerpc64le-linux-gnu libc6-dev-ppc64el-cross"),),
     ),
 }
 

@@ -59,8 +59,8 @@ class Packages:
         return carried_out(list(words), cwd=self.folder, env=settings).decode()
 
     def kernel_of(self, image):
-        """The packages that have the kernel and its modules, of the package that names the newest one."""
-        found, left = [], [image]
+        """The packages that have the kernel and its modules, of the package that names the newest one, or of one that has it."""
+        found, left = [image], [image]
         while left:
             name = left.pop()
             asked = [line.strip().partition(": ") for line in self.apt("apt-cache", "depends", name).splitlines()]

@@ -46,6 +46,8 @@ class Bench:
             self.program.certify(row, rest)
         elif kind == "behind":
             self.program.behind(row, rest)
+        elif kind == "tuned":
+            self.program.tuned(row, rest)
         elif kind == "pace":
             row.tell(pace(self.shelf, rest))
         elif kind in Streams.KINDS:

@@ -16,9 +16,15 @@ from harness.rows import Fault
 from harness.texts import number
 
 # The machines of a family, by what stands before a row's kind.
-MACHINES = {"": ("x86-64", "aarch64"), "linux-": ("linux-x86-64", "linux-x86", "linux-x32", "linux-aarch64", "linux-arm")}
-# The token of each machine in a record (seccomp(2), AUDIT_ARCH_X86_64, AUDIT_ARCH_AARCH64, AUDIT_ARCH_I386 and AUDIT_ARCH_ARM). x32's
-# is that of x86-64.
+MACHINES = {
+    "": ("x86-64", "aarch64"),
+    "linux-": (
+        *("linux-x86-64", "linux-x86", "linux-x32", "linux-aarch64", "linux-arm"),
+        *("linux-riscv64", "linux-ppc64le", "linux-loongarch64"),
+    ),
+}
+# The token of each machine in a record (seccomp(2); AUDIT_ARCH_X86_64, AUDIT_ARCH_AARCH64, AUDIT_ARCH_I386 and so on of linux/audit.h).
+# x32's is that of x86-64.
 TOKENS = {
     "x86-64": 0xC000003E,
     "aarch64": 0xC00000B7,
@@ -27,6 +33,9 @@ TOKENS = {
     "linux-x32": 0xC000003E,
     "linux-aarch64": 0xC00000B7,
     "linux-arm": 0x40000028,
+    "linux-riscv64": 0xC00000F3,
+    "linux-ppc64le": 0xC0000015,
+    "linux-loongarch64": 0xC0000102,
 }
 # The names of machines in the answers of `ask`.
 DEBUG_NAMES = {
@@ -37,9 +46,12 @@ DEBUG_NAMES = {
     "LinuxX32": "linux-x32",
     "LinuxAarch64": "linux-aarch64",
     "LinuxArm": "linux-arm",
+    "LinuxRiscv64": "linux-riscv64",
+    "LinuxPpc64le": "linux-ppc64le",
+    "LinuxLoongarch64": "linux-loongarch64",
 }
 # The names that a bundle may have for machines (config-linux, Seccomp).
-SCMP_NAMES = [f"SCMP_ARCH_{name}" for name in "X86 X86_64 X32 ARM AARCH64 MIPS MIPS64 PPC64LE RISCV64 S390 S390X".split()]
+SCMP_NAMES = [f"SCMP_ARCH_{name}" for name in "X86 X86_64 X32 ARM AARCH64 MIPS MIPS64 PPC64LE RISCV64 S390 S390X LOONGARCH64".split()]
 # What is told of a number that no call has.
 NO_NAME = "no call"
 # The least number of an x32 call, which has no name of its own in a listing, and the bit that all of them carry.

@@ -13,6 +13,9 @@ FUNCTIONS = {
     "umount": "umount2", "mmap_pgoff": "mmap", "arm64_personality": "personality", "fadvise64_64": "fadvise64",
 }
 
+# Machines that read a call as another one does, where the page has a line for that one alone.
+ALIKE = {"riscv64": "aarch64", "ppc64le": "aarch64"}
+
 # Types of 32 bits and of 16. All others that are no pointers are whole.
 NARROW = {
     "int": "32", "unsigned int": "32", "unsigned": "32", "u32": "32", "__u32": "32", "__s32": "32", "pid_t": "32", "uid_t": "32", "gid_t": "32",
@@ -60,10 +63,10 @@ def of_kernel(folder):
 
 def unlike(page, kernel, machine):
     """How many lines of a kernel are those of the page, the others with both lines, and which calls the page has not. A line of the page
-    for this machine alone comes before the one for all."""
+    for this machine, or for one that is like it, comes before the one for all."""
     alike, others, missing = 0, {}, []
     for name, line in sorted(kernel.items()):
-        told = page.get(f"{machine} {name}", page.get(name))
+        told = page.get(f"{ALIKE.get(machine, machine)} {name}", page.get(name))
         if told is None:
             missing.append(name)
         elif told == line:

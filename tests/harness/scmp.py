@@ -118,6 +118,13 @@ class Here:
             file.seek(0)
             return error, file.read()
 
+    def listing(self):
+        """The error, and the listing that is written into a file."""
+        with tempfile.TemporaryFile() as file:
+            error = self.ask("export_pfc", file.fileno())
+            file.seek(0)
+            return error, file.read().decode()
+
     def memory(self, room):
         """seccomp_export_bpf_mem with so much room: the error, the bytes and how many are wanted."""
         held, length = ctypes.create_string_buffer(max(room, 1)), ctypes.c_size_t(room)
@@ -294,6 +301,10 @@ class Library:
     def export(self):
         """The filter that is exported, behind the error."""
         return self.at.export()
+
+    def listing(self):
+        """The listing by seccomp_export_pfc, behind the error."""
+        return self.at.listing()
 
     def memory(self, room):
         """seccomp_export_bpf_mem."""

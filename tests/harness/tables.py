@@ -35,6 +35,10 @@ FAULTS = {
 }
 
 
+# The machines that have all calls of Linux, as PROFILES.md tells how many there are.
+WHOLE = ("x86-64", "x86", "x32", "AArch64", "ARM", "riscv64", "ppc64le", "loongarch64")
+
+
 def read(path):
     """The text of a file of the repository."""
     with open(f"{TOP}/{path}", encoding="utf-8") as file:
@@ -179,7 +183,7 @@ def faults_of_calls(page, text):
     counts = re.search(r"chosen lists: (\d+) and (\d+) calls", text)
     if counts and counts.groups() != (str(len(chosen)), str(len(chosen) - chosen.count("-"))):
         faults.append(f"its chosen lists have {len(chosen)} calls")
-    counts = re.search(r"(\d+) on x86-64, (\d+) on x86, (\d+) on x32, (\d+) on AArch64 and (\d+) on ARM", text)
+    counts = re.search(", ".join(rf"(\d+) on {machine}" for machine in WHOLE[:-1]) + rf" and (\d+) on {WHOLE[-1]}", text)
     return faults + (faults_of_whole_tables(counts.groups()) if counts else [])
 
 

@@ -20,7 +20,7 @@ from harness.tally import tell
 
 MIRROR, SUITES = "http://deb.debian.org/debian", ("bookworm", "trixie")
 TOOLS = ("scmp_bpf_sim", "scmp_sys_resolver", "scmp_arch_detect", "scmp_api_level")
-KNOWN = ("x86_64", "x86", "x32", "aarch64", "arm")
+KNOWN = ("x86_64", "x86", "x32", "aarch64", "arm", "riscv64", "ppc64le", "loongarch64")
 # How a program ends that carries out a call with such an action, and what a line of LIBRARY's table says of a test.
 ENDS = {"KILL": 159, "KILL_PROCESS": 159, "ALLOW": 160, "TRAP": 161, "ERRNO": 163, "LOG": 164}
 ALL, OTHERS = "all", "other machines"

@@ -6,7 +6,10 @@ from harness.calls import TOKENS
 from harness.places import TOP
 
 # The columns of docs/linux-calls.txt.
-COLUMNS = ("linux-x86-64", "linux-x86", "linux-x32", "linux-aarch64", "linux-arm")
+COLUMNS = (
+    *("linux-x86-64", "linux-x86", "linux-x32", "linux-aarch64", "linux-arm"),
+    *("linux-riscv64", "linux-ppc64le", "linux-loongarch64"),
+)
 X32 = 0x40000000
 
 
@@ -70,4 +73,20 @@ ARM = Machine(
     bits=32,
     further=(0xF0000, 0xF0006, 0xF07FF, 0xF0800, 0xFFFFF, 0x40000000),
 )
-MACHINES = {machine.name: machine for machine in (X86_64, AARCH64, ARM)}
+RISCV64 = Machine(
+    name="riscv64",
+    whole="linux-riscv64",
+    run="linux-riscv64",
+    ways=(("s", "linux-riscv64"),),
+    listed="SCMP_ARCH_RISCV64",
+    besides=("SCMP_ARCH_AARCH64",),
+)
+PPC64LE = Machine(
+    name="ppc64le",
+    whole="linux-ppc64le",
+    run="linux-ppc64le",
+    ways=(("s", "linux-ppc64le"),),
+    listed="SCMP_ARCH_PPC64LE",
+    besides=("SCMP_ARCH_RISCV64",),
+)
+MACHINES = {machine.name: machine for machine in (X86_64, AARCH64, ARM, RISCV64, PPC64LE)}

@@ -67,6 +67,43 @@ __asm__(".text\n"
 	"	svc #0\n"
 	"behind_syscall:\n"
 	"	pop {r4, r5, r7, pc}\n");
+#elif defined(__riscv) && __riscv_xlen == 64
+__asm__(".text\n"
+	".balign 4\n"
+	".globl enter_by_syscall, behind_syscall\n"
+	".type enter_by_syscall, %function\n"
+	"enter_by_syscall:\n"
+	"	mv t0, a0\n"
+	"	ld a7, 0(t0)\n"
+	"	ld a0, 8(t0)\n"
+	"	ld a1, 16(t0)\n"
+	"	ld a2, 24(t0)\n"
+	"	ld a3, 32(t0)\n"
+	"	ld a4, 40(t0)\n"
+	"	ld a5, 48(t0)\n"
+	"	ecall\n"
+	"behind_syscall:\n"
+	"	ret\n");
+#elif defined(__powerpc64__) && defined(__LITTLE_ENDIAN__)
+/* An error is told by the bit SO, and is positive. */
+__asm__(".text\n"
+	".balign 4\n"
+	".globl enter_by_syscall, behind_syscall\n"
+	".type enter_by_syscall, @function\n"
+	"enter_by_syscall:\n"
+	"	mr 9, 3\n"
+	"	ld 0, 0(9)\n"
+	"	ld 3, 8(9)\n"
+	"	ld 4, 16(9)\n"
+	"	ld 5, 24(9)\n"
+	"	ld 6, 32(9)\n"
+	"	ld 7, 40(9)\n"
+	"	ld 8, 48(9)\n"
+	"	sc\n"
+	"behind_syscall:\n"
+	"	bnslr\n"
+	"	neg 3, 3\n"
+	"	blr\n");
 #else
 #error "no way into the kernel is written for this machine"
 #endif

@@ -2,14 +2,15 @@
  *
  * The line is a number and up to six arguments, hexadecimal, each behind a space. A letter stands for what the child has: the
  * descriptors F of a file of a page, N of /dev/null, S of a socket and D of a folder, the addresses B of room for answers, M of a page
- * of memory, P of the text "." and Z of "/", and I for its own number. A slash and a number behind an argument put it into its upper
- * half. */
+ * of memory, P of the text "." and Z of "/", the request R for how much may be read, which machines number unlike, and I for its own
+ * number. A slash and a number behind an argument put it into its upper half. */
 #define _GNU_SOURCE
 #include "side.h"
 
 #include <fcntl.h>
 #include <stdio.h>
 #include <string.h>
+#include <sys/ioctl.h>
 #include <sys/mman.h>
 #include <sys/socket.h>
 #include <sys/wait.h>
@@ -57,6 +58,8 @@ static unsigned long meant(char letter)
 		return (unsigned long)page;
 	case 'P':
 		return (unsigned long)here;
+	case 'R':
+		return FIONREAD;
 	case 'Z':
 		return (unsigned long)root;
 	default:

@@ -8,11 +8,11 @@ use Rattle.std.proofs.lemmas.Bool.Decides.{nat_tests}
 use Rattle.std.proofs.lemmas.List.Folds.{Any-from_list_any}
 use Rattle.std.proofs.lemmas.Option.{same_Some}
 use Rattle.call_tables.specs.declared.arch.Arch.{Arch}
-use Rattle.call_tables.specs.declared.arch.Arch.TheVariants.{X86_64, Aarch64, LinuxX86_64, LinuxX86, LinuxX32, LinuxAarch64, LinuxArm}
+use Rattle.call_tables.specs.declared.arch.Arch.TheVariants.{X86_64, Aarch64, LinuxX86_64, LinuxX86, LinuxX32, LinuxAarch64, LinuxArm, LinuxRiscv64, LinuxPpc64le, LinuxLoongarch64}
 use Rattle.call_tables.specs.declared.numbers.Numbers.{Numbers}
 use Rattle.call_tables.specs.Table.{Table, number_in}
 use Rattle.call_tables.specs.Machines.{first_rows, second_rows, third_rows, fourth_rows, x86_64_table, aarch64_table}
-use Rattle.call_tables.specs.Machines.{linux_x86_64_table, linux_x86_table, linux_x32_table, linux_aarch64_table, linux_arm_table}
+use Rattle.call_tables.specs.Machines.{linux_x86_64_table, linux_x86_table, linux_x32_table, linux_aarch64_table, linux_arm_table, linux_riscv64_table, linux_ppc64le_table, linux_loongarch64_table}
 use Rattle.call_tables.specs.Arch.{table_of}
 use Rattle.call_tables.specs.Numbers.{own_numbers, IsWithin, IsOwn, is_within}
 use Rattle.call_tables.proofs.TableLaws.{number_here, number_past}
@@ -48,6 +48,18 @@ linux_arm-own : are_own LinuxArm linux_arm_table ≡ true
 unfolding linux_arm_table first_rows second_rows third_rows fourth_rows
 linux_arm-own = refl
 
+linux_riscv64-own : are_own LinuxRiscv64 linux_riscv64_table ≡ true
+unfolding linux_riscv64_table first_rows second_rows third_rows fourth_rows
+linux_riscv64-own = refl
+
+linux_ppc64le-own : are_own LinuxPpc64le linux_ppc64le_table ≡ true
+unfolding linux_ppc64le_table first_rows second_rows third_rows fourth_rows
+linux_ppc64le-own = refl
+
+linux_loongarch64-own : are_own LinuxLoongarch64 linux_loongarch64_table ≡ true
+unfolding linux_loongarch64_table first_rows second_rows third_rows fourth_rows
+linux_loongarch64-own = refl
+
 within : (nr : ℕ) (numbers : Numbers) → is_within nr numbers ≡ true → IsWithin nr numbers
 within nr numbers h =
     let parts = and_parts (nat_le numbers.first nr) (nat_le nr numbers.last) h in
@@ -77,3 +89,6 @@ table_of-own LinuxX86 name nr = found LinuxX86 linux_x86_table name nr linux_x86
 table_of-own LinuxX32 name nr = found LinuxX32 linux_x32_table name nr linux_x32-own
 table_of-own LinuxAarch64 name nr = found LinuxAarch64 linux_aarch64_table name nr linux_aarch64-own
 table_of-own LinuxArm name nr = found LinuxArm linux_arm_table name nr linux_arm-own
+table_of-own LinuxRiscv64 name nr = found LinuxRiscv64 linux_riscv64_table name nr linux_riscv64-own
+table_of-own LinuxPpc64le name nr = found LinuxPpc64le linux_ppc64le_table name nr linux_ppc64le-own
+table_of-own LinuxLoongarch64 name nr = found LinuxLoongarch64 linux_loongarch64_table name nr linux_loongarch64-own

@@ -3,7 +3,8 @@ use Rattle.std.specs.Prelude.{◌≡◌, ◌==◌, ℕ, Bool, true, false, List,
 use Rattle.std.specs.List.{All}
 use Rattle.std.specs.Str.{bytes_eq}
 use Rattle.call_tables.specs.declared.arch.Arch.{Arch}
-use Rattle.call_tables.specs.declared.arch.Arch.TheVariants.{X86_64, Aarch64, LinuxX86_64, LinuxX86, LinuxX32, LinuxAarch64, LinuxArm}
+use Rattle.call_tables.specs.declared.arch.Arch.TheVariants.{X86_64, Aarch64, LinuxX86_64, LinuxX86, LinuxX32}
+use Rattle.call_tables.specs.declared.arch.Arch.TheVariants.{LinuxAarch64, LinuxArm, LinuxRiscv64, LinuxPpc64le, LinuxLoongarch64}
 use Rattle.call_tables.specs.declared.arch.Family.{Family}
 use Rattle.call_tables.specs.declared.arch.Family.TheVariants.{Chosen, Whole}
 use Rattle.call_tables.specs.Table.{Table}
@@ -17,6 +18,9 @@ token_of LinuxX86 = machines.x86_token
 token_of LinuxX32 = machines.x86_64_token
 token_of LinuxAarch64 = machines.aarch64_token
 token_of LinuxArm = machines.arm_token
+token_of LinuxRiscv64 = machines.riscv64_token
+token_of LinuxPpc64le = machines.ppc64le_token
+token_of LinuxLoongarch64 = machines.loongarch64_token
 
 abbrev pub scmp_of : Arch → List ℕ
 scmp_of X86_64 = machines.x86_64_scmp
@@ -26,6 +30,9 @@ scmp_of LinuxX86 = machines.x86_scmp
 scmp_of LinuxX32 = machines.x32_scmp
 scmp_of LinuxAarch64 = machines.aarch64_scmp
 scmp_of LinuxArm = machines.arm_scmp
+scmp_of LinuxRiscv64 = machines.riscv64_scmp
+scmp_of LinuxPpc64le = machines.ppc64le_scmp
+scmp_of LinuxLoongarch64 = machines.loongarch64_scmp
 
 abbrev pub table_of : Arch → Table
 table_of X86_64 = machines.x86_64_table
@@ -35,6 +42,9 @@ table_of LinuxX86 = machines.linux_x86_table
 table_of LinuxX32 = machines.linux_x32_table
 table_of LinuxAarch64 = machines.linux_aarch64_table
 table_of LinuxArm = machines.linux_arm_table
+table_of LinuxRiscv64 = machines.linux_riscv64_table
+table_of LinuxPpc64le = machines.linux_ppc64le_table
+table_of LinuxLoongarch64 = machines.linux_loongarch64_table
 
 -- the name by which a user of the program calls a machine
 abbrev pub machine_name : Arch → List ℕ
@@ -45,6 +55,9 @@ machine_name LinuxX86 = codes "linux-x86"
 machine_name LinuxX32 = codes "linux-x32"
 machine_name LinuxAarch64 = codes "linux-aarch64"
 machine_name LinuxArm = codes "linux-arm"
+machine_name LinuxRiscv64 = codes "linux-riscv64"
+machine_name LinuxPpc64le = codes "linux-ppc64le"
+machine_name LinuxLoongarch64 = codes "linux-loongarch64"
 
 -- the machine with this name, of those that a container may be for
 unfoldable pub native_called : List ℕ → Option Arch
@@ -53,6 +66,9 @@ native_called name =
     else if bytes_eq name (machine_name Aarch64) then Some Aarch64
     else if bytes_eq name (machine_name LinuxX86_64) then Some LinuxX86_64
     else if bytes_eq name (machine_name LinuxAarch64) then Some LinuxAarch64
+    else if bytes_eq name (machine_name LinuxRiscv64) then Some LinuxRiscv64
+    else if bytes_eq name (machine_name LinuxPpc64le) then Some LinuxPpc64le
+    else if bytes_eq name (machine_name LinuxLoongarch64) then Some LinuxLoongarch64
     else None
 
 -- the machine with this name
@@ -72,6 +88,9 @@ place_of LinuxX32 = 3
 place_of LinuxX86 = 4
 place_of LinuxAarch64 = 5
 place_of LinuxArm = 6
+place_of LinuxRiscv64 = 7
+place_of LinuxPpc64le = 8
+place_of LinuxLoongarch64 = 9
 
 abbrev pub same_arch : Arch → Arch → Bool
 same_arch a b = place_of a == place_of b
@@ -87,6 +106,9 @@ family_of LinuxX86 = Whole
 family_of LinuxX32 = Whole
 family_of LinuxAarch64 = Whole
 family_of LinuxArm = Whole
+family_of LinuxRiscv64 = Whole
+family_of LinuxPpc64le = Whole
+family_of LinuxLoongarch64 = Whole
 
 abbrev pub same_family : Family → Family → Bool
 same_family Chosen Chosen = true
@@ -97,7 +119,8 @@ same_family Whole Whole = true
 -- a family's machines, x86-64 first, and side by side those with one token
 abbrev pub machines_of : Family → List Arch
 machines_of Chosen = X86_64 ∷ Aarch64 ∷ []
-machines_of Whole = LinuxX86_64 ∷ LinuxX32 ∷ LinuxX86 ∷ LinuxAarch64 ∷ LinuxArm ∷ []
+machines_of Whole =
+    LinuxX86_64 ∷ LinuxX32 ∷ LinuxX86 ∷ LinuxAarch64 ∷ LinuxArm ∷ LinuxRiscv64 ∷ LinuxPpc64le ∷ LinuxLoongarch64 ∷ []
 
 -- all of these machines are of the family
 abbrev pub AreOfFamily : Family → List Arch → Type 0

@@ -2,7 +2,8 @@
 -- Specification (config-linux, Seccomp, architectures), and the tables.
 use Rattle.std.specs.Prelude.{ℕ, ◌++◌, List, map, codes}
 use Rattle.call_tables.specs.declared.calls.TheConstants.{X86_64_CALLS, AARCH64_CALLS}
-use Rattle.call_tables.specs.declared.linux_calls.TheConstants.{FIRST_CALLS, SECOND_CALLS, THIRD_CALLS, FOURTH_CALLS}
+use Rattle.call_tables.specs.declared.linux_calls.TheConstants.{FIRST_CALLS, SECOND_CALLS}
+use Rattle.call_tables.specs.declared.linux_calls_later.TheConstants.{THIRD_CALLS, FOURTH_CALLS}
 use Rattle.call_tables.specs.Table.{Table}
 use Rattle.call_tables.specs.Rows.{Rows, column_of}
 
@@ -22,6 +23,18 @@ x86_token = 0x40000003
 abbrev pub arm_token : ℕ
 arm_token = 0x40000028
 
+-- AUDIT_ARCH_RISCV64
+abbrev pub riscv64_token : ℕ
+riscv64_token = 0xc00000f3
+
+-- AUDIT_ARCH_PPC64LE
+abbrev pub ppc64le_token : ℕ
+ppc64le_token = 0xc0000015
+
+-- AUDIT_ARCH_LOONGARCH64
+abbrev pub loongarch64_token : ℕ
+loongarch64_token = 0xc0000102
+
 abbrev pub x86_64_scmp : List ℕ
 x86_64_scmp = codes "SCMP_ARCH_X86_64"
 
@@ -37,6 +50,15 @@ x32_scmp = codes "SCMP_ARCH_X32"
 abbrev pub arm_scmp : List ℕ
 arm_scmp = codes "SCMP_ARCH_ARM"
 
+abbrev pub riscv64_scmp : List ℕ
+riscv64_scmp = codes "SCMP_ARCH_RISCV64"
+
+abbrev pub ppc64le_scmp : List ℕ
+ppc64le_scmp = codes "SCMP_ARCH_PPC64LE"
+
+abbrev pub loongarch64_scmp : List ℕ
+loongarch64_scmp = codes "SCMP_ARCH_LOONGARCH64"
+
 -- ---- the chosen lists
 
 unfoldable pub x86_64_table : Table
@@ -45,7 +67,7 @@ x86_64_table = map (λ e. (e.0.now, e.1)) X86_64_CALLS.now
 unfoldable pub aarch64_table : Table
 aarch64_table = map (λ e. (e.0.now, e.1)) AARCH64_CALLS.now
 
--- ---- all calls of Linux, in the columns x86-64, x86, x32, AArch64 and ARM
+-- ---- all calls of Linux, in the columns x86-64, x86, x32, AArch64, ARM, riscv64, ppc64le and loongarch64
 
 unfoldable pub first_rows : Rows
 first_rows = map (λ e. (e.0.now, e.1)) FIRST_CALLS.now
@@ -76,3 +98,12 @@ linux_aarch64_table = column_of 3 linux_rows
 
 unfoldable pub linux_arm_table : Table
 linux_arm_table = column_of 4 linux_rows
+
+unfoldable pub linux_riscv64_table : Table
+linux_riscv64_table = column_of 5 linux_rows
+
+unfoldable pub linux_ppc64le_table : Table
+linux_ppc64le_table = column_of 6 linux_rows
+
+unfoldable pub linux_loongarch64_table : Table
+linux_loongarch64_table = column_of 7 linux_rows

@@ -4,7 +4,8 @@
 use Rattle.std.specs.Prelude.{◌≡◌, ℕ, ◌≤◌, ◌==◌, ◌&&◌, not, nat_le, Bool, if◌then◌else◌, List, [], ◌∷◌}
 use Rattle.std.specs.List.{Any, list_any}
 use Rattle.call_tables.specs.declared.arch.Arch.{Arch}
-use Rattle.call_tables.specs.declared.arch.Arch.TheVariants.{X86_64, Aarch64, LinuxX86_64, LinuxX86, LinuxX32, LinuxAarch64, LinuxArm}
+use Rattle.call_tables.specs.declared.arch.Arch.TheVariants.{X86_64, Aarch64, LinuxX86_64, LinuxX86, LinuxX32}
+use Rattle.call_tables.specs.declared.arch.Arch.TheVariants.{LinuxAarch64, LinuxArm, LinuxRiscv64, LinuxPpc64le, LinuxLoongarch64}
 use Rattle.call_tables.specs.declared.numbers.Numbers.{Numbers}
 use Rattle.call_tables.specs.Arch.{token_of, family_of, same_arch, same_family}
 
@@ -20,6 +21,9 @@ own_numbers LinuxX86 = from_to 0 0xffffffff ∷ []
 own_numbers LinuxX32 = from_to 0x40000000 0xfffffffe ∷ []
 own_numbers LinuxAarch64 = from_to 0 0xffffffff ∷ []
 own_numbers LinuxArm = from_to 0 0xffffffff ∷ []
+own_numbers LinuxRiscv64 = from_to 0 0xffffffff ∷ []
+own_numbers LinuxPpc64le = from_to 0 0xffffffff ∷ []
+own_numbers LinuxLoongarch64 = from_to 0 0xffffffff ∷ []
 
 -- all others
 abbrev pub other_numbers : Arch → List Numbers
@@ -30,6 +34,9 @@ other_numbers LinuxX86 = []
 other_numbers LinuxX32 = from_to 0 0x3fffffff ∷ from_to 0xffffffff 0xffffffff ∷ []
 other_numbers LinuxAarch64 = []
 other_numbers LinuxArm = []
+other_numbers LinuxRiscv64 = []
+other_numbers LinuxPpc64le = []
+other_numbers LinuxLoongarch64 = []
 
 abbrev pub IsWithin : ℕ → Numbers → Type 0
 IsWithin nr numbers = (numbers.first ≤ nr) × (nr ≤ numbers.last)

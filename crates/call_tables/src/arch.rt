@@ -4,7 +4,8 @@ ghost use Rattle.call_tables.specs.Table.{number_in, name_in, IsInverse};
 ghost use Rattle.call_tables.specs.Arch.{table_of};
 
 use crate::machines::{
-    Aarch64, LinuxAarch64, LinuxArm, LinuxX32, LinuxX86, LinuxX86_64, Machine, X86_64,
+    Aarch64, LinuxAarch64, LinuxArm, LinuxLoongarch64, LinuxPpc64le, LinuxRiscv64, LinuxX32,
+    LinuxX86, LinuxX86_64, Machine, X86_64,
 };
 use crate::numbers::{
     ALL, ARM_CALLS, BELOW_X32, CALLS, FROM_X32, LINUX_X32, LINUX_X86_64, Numbers, X32_CALLS,
@@ -20,6 +21,9 @@ pub enum Arch {
     LinuxX86,
     LinuxAarch64,
     LinuxArm,
+    LinuxRiscv64,
+    LinuxPpc64le,
+    LinuxLoongarch64,
 }
 
 /// What machines share that may stand in one profile: the extent of their tables.
@@ -46,6 +50,9 @@ impl Family {
                 Arch::LinuxX86,
                 Arch::LinuxAarch64,
                 Arch::LinuxArm,
+                Arch::LinuxRiscv64,
+                Arch::LinuxPpc64le,
+                Arch::LinuxLoongarch64,
             ],
         }
     }
@@ -64,7 +71,7 @@ impl Arch {
     ghost use Rattle.call_tables.specs.Numbers.{own_numbers, other_numbers, IsOwn};
 
     /// All machines, family by family, in the order in which lists of machines name them.
-    pub const ALL: [Arch; 7] = [
+    pub const ALL: [Arch; 10] = [
         Arch::X86_64,
         Arch::Aarch64,
         Arch::LinuxX86_64,
@@ -72,6 +79,9 @@ impl Arch {
         Arch::LinuxX86,
         Arch::LinuxAarch64,
         Arch::LinuxArm,
+        Arch::LinuxRiscv64,
+        Arch::LinuxPpc64le,
+        Arch::LinuxLoongarch64,
     ];
 
     /// Which tables the machine's is one of.
@@ -84,7 +94,10 @@ impl Arch {
             | Arch::LinuxX86
             | Arch::LinuxX32
             | Arch::LinuxAarch64
-            | Arch::LinuxArm => Family::Whole,
+            | Arch::LinuxArm
+            | Arch::LinuxRiscv64
+            | Arch::LinuxPpc64le
+            | Arch::LinuxLoongarch64 => Family::Whole,
         }
     }
 
@@ -100,6 +113,9 @@ impl Arch {
             Arch::LinuxX32 => LinuxX32::TOKEN,
             Arch::LinuxAarch64 => LinuxAarch64::TOKEN,
             Arch::LinuxArm => LinuxArm::TOKEN,
+            Arch::LinuxRiscv64 => LinuxRiscv64::TOKEN,
+            Arch::LinuxPpc64le => LinuxPpc64le::TOKEN,
+            Arch::LinuxLoongarch64 => LinuxLoongarch64::TOKEN,
         }
     }
 
@@ -112,7 +128,13 @@ impl Arch {
             Arch::X86_64 => BELOW_X32,
             Arch::LinuxX86_64 => LINUX_X86_64,
             Arch::LinuxX32 => LINUX_X32,
-            Arch::Aarch64 | Arch::LinuxX86 | Arch::LinuxAarch64 | Arch::LinuxArm => ALL,
+            Arch::Aarch64
+            | Arch::LinuxX86
+            | Arch::LinuxAarch64
+            | Arch::LinuxArm
+            | Arch::LinuxRiscv64
+            | Arch::LinuxPpc64le
+            | Arch::LinuxLoongarch64 => ALL,
         }
     }
 
@@ -124,7 +146,13 @@ impl Arch {
             Arch::X86_64 => FROM_X32,
             Arch::LinuxX86_64 => LINUX_X32,
             Arch::LinuxX32 => LINUX_X86_64,
-            Arch::Aarch64 | Arch::LinuxX86 | Arch::LinuxAarch64 | Arch::LinuxArm => &[],
+            Arch::Aarch64
+            | Arch::LinuxX86
+            | Arch::LinuxAarch64
+            | Arch::LinuxArm
+            | Arch::LinuxRiscv64
+            | Arch::LinuxPpc64le
+            | Arch::LinuxLoongarch64 => &[],
         }
     }
 
@@ -149,6 +177,9 @@ impl Arch {
             Arch::LinuxX32 => LinuxX32::SCMP,
             Arch::LinuxAarch64 => LinuxAarch64::SCMP,
             Arch::LinuxArm => LinuxArm::SCMP,
+            Arch::LinuxRiscv64 => LinuxRiscv64::SCMP,
+            Arch::LinuxPpc64le => LinuxPpc64le::SCMP,
+            Arch::LinuxLoongarch64 => LinuxLoongarch64::SCMP,
         }
     }
 
@@ -164,6 +195,9 @@ impl Arch {
             Arch::LinuxX32 => "linux-x32",
             Arch::LinuxAarch64 => "linux-aarch64",
             Arch::LinuxArm => "linux-arm",
+            Arch::LinuxRiscv64 => "linux-riscv64",
+            Arch::LinuxPpc64le => "linux-ppc64le",
+            Arch::LinuxLoongarch64 => "linux-loongarch64",
         }
     }
 
@@ -184,6 +218,15 @@ impl Arch {
         }
         if name == "linux-aarch64" {
             return Some(Arch::LinuxAarch64);
+        }
+        if name == "linux-riscv64" {
+            return Some(Arch::LinuxRiscv64);
+        }
+        if name == "linux-ppc64le" {
+            return Some(Arch::LinuxPpc64le);
+        }
+        if name == "linux-loongarch64" {
+            return Some(Arch::LinuxLoongarch64);
         }
         None
     }
@@ -217,6 +260,9 @@ impl Arch {
             Arch::LinuxX32 => LinuxX32::number(name),
             Arch::LinuxAarch64 => LinuxAarch64::number(name),
             Arch::LinuxArm => LinuxArm::number(name),
+            Arch::LinuxRiscv64 => LinuxRiscv64::number(name),
+            Arch::LinuxPpc64le => LinuxPpc64le::number(name),
+            Arch::LinuxLoongarch64 => LinuxLoongarch64::number(name),
         }
     }
 
@@ -232,6 +278,9 @@ impl Arch {
             Arch::LinuxX32 => LinuxX32::name(number),
             Arch::LinuxAarch64 => LinuxAarch64::name(number),
             Arch::LinuxArm => LinuxArm::name(number),
+            Arch::LinuxRiscv64 => LinuxRiscv64::name(number),
+            Arch::LinuxPpc64le => LinuxPpc64le::name(number),
+            Arch::LinuxLoongarch64 => LinuxLoongarch64::name(number),
         }
     }
 
@@ -244,7 +293,10 @@ impl Arch {
             | Arch::Aarch64
             | Arch::LinuxX86_64
             | Arch::LinuxX86
-            | Arch::LinuxAarch64 => CALLS,
+            | Arch::LinuxAarch64
+            | Arch::LinuxRiscv64
+            | Arch::LinuxPpc64le
+            | Arch::LinuxLoongarch64 => CALLS,
         }
     }
 }

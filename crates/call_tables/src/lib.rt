@@ -14,6 +14,7 @@ mod arch;
 mod calls;
 mod linux;
 mod linux_calls;
+mod linux_calls_later;
 mod machines;
 mod numbers;
 mod rows;
@@ -22,8 +23,8 @@ mod width;
 
 pub use arch::{Arch, Family, look_ups_are_inverse};
 pub use machines::{
-    Aarch64, LinuxAarch64, LinuxArm, LinuxX32, LinuxX86, LinuxX86_64, Machine, X86_64,
-    machine_look_ups_are_inverse,
+    Aarch64, LinuxAarch64, LinuxArm, LinuxLoongarch64, LinuxPpc64le, LinuxRiscv64, LinuxX32,
+    LinuxX86, LinuxX86_64, Machine, X86_64, machine_look_ups_are_inverse,
 };
 pub use numbers::{LEAST_X32_NUMBER, Numbers};
 pub use width::{compared, is_narrow};

@@ -5,7 +5,8 @@ ghost use Rattle.call_tables.specs.Rows.{rows, column_of};
 ghost use Rattle.call_tables.specs.Machines.{first_rows, second_rows, third_rows, fourth_rows, linux_rows};
 ghost use Rattle.call_tables.specs.inner.Order.{are_sorted};
 
-use crate::linux_calls::{FIRST_CALLS, FOURTH_CALLS, SECOND_CALLS, THIRD_CALLS};
+use crate::linux_calls::{FIRST_CALLS, SECOND_CALLS};
+use crate::linux_calls_later::{FOURTH_CALLS, THIRD_CALLS};
 use crate::rows::{MACHINES, name_of, number_of};
 
 #[tactic(auto, unfolding(crate::specs::Machines::first_rows))]
@@ -42,7 +43,7 @@ fn fourth() -> &'static [(&'static str, [u32; MACHINES])]
 
 // The same from the third part on.
 fn number_from_third(column: usize, name: &str) -> Option<u32>
-    requires { column < 5 }
+    requires { column < 8 }
     ensures { result ≡ number_in (column_of column (third_rows ++ fourth_rows)) name.now }
 {
     let found = number_of(third(), column, name);
@@ -54,7 +55,7 @@ fn number_from_third(column: usize, name: &str) -> Option<u32>
 
 // The same from the second part on.
 fn number_from_second(column: usize, name: &str) -> Option<u32>
-    requires { column < 5 }
+    requires { column < 8 }
     ensures { result ≡ number_in (column_of column (second_rows ++ (third_rows ++ fourth_rows))) name.now }
 {
     let found = number_of(second(), column, name);
@@ -66,7 +67,7 @@ fn number_from_second(column: usize, name: &str) -> Option<u32>
 
 /// The number of the name in a column.
 pub(crate) fn linux_number(column: usize, name: &str) -> Option<u32>
-    requires { column < 5 }
+    requires { column < 8 }
     ensures { result ≡ number_in (column_of column (first_rows ++ (second_rows ++ (third_rows ++ fourth_rows)))) name.now }
 {
     let found = number_of(first(), column, name);
@@ -78,7 +79,7 @@ pub(crate) fn linux_number(column: usize, name: &str) -> Option<u32>
 
 // The same from the third part on.
 fn name_from_third(column: usize, number: u32) -> Option<&'static str>
-    requires { column < 5 }
+    requires { column < 8 }
     ensures { option_copied result ≡ name_in (column_of column (third_rows ++ fourth_rows)) number }
 {
     let found = name_of(third(), column, number);
@@ -90,7 +91,7 @@ fn name_from_third(column: usize, number: u32) -> Option<&'static str>
 
 // The same from the second part on.
 fn name_from_second(column: usize, number: u32) -> Option<&'static str>
-    requires { column < 5 }
+    requires { column < 8 }
     ensures { option_copied result ≡ name_in (column_of column (second_rows ++ (third_rows ++ fourth_rows))) number }
 {
     let found = name_of(second(), column, number);
@@ -102,7 +103,7 @@ fn name_from_second(column: usize, number: u32) -> Option<&'static str>
 
 /// The name of the number in a column.
 pub(crate) fn linux_name(column: usize, number: u32) -> Option<&'static str>
-    requires { column < 5 }
+    requires { column < 8 }
     ensures { option_copied result ≡ name_in (column_of column (first_rows ++ (second_rows ++ (third_rows ++ fourth_rows)))) number }
 {
     let found = name_of(first(), column, number);

@@ -62,6 +62,12 @@ const X86_TOKEN: u32 = 0x4000_0003;
 
 const ARM_TOKEN: u32 = 0x4000_0028;
 
+const RISCV64_TOKEN: u32 = 0xc000_00f3;
+
+const PPC64LE_TOKEN: u32 = 0xc000_0015;
+
+const LOONGARCH64_TOKEN: u32 = 0xc000_0102;
+
 const X86_64_SCMP: &str = "SCMP_ARCH_X86_64";
 
 const AARCH64_SCMP: &str = "SCMP_ARCH_AARCH64";
@@ -93,6 +99,18 @@ pub struct LinuxAarch64;
 /// ARM by its embedded interface, with all its calls on Linux 7.3.
 #[derive(Clone, Copy, Debug)]
 pub struct LinuxArm;
+
+/// RISC-V of 64 bits, with all its calls on Linux 7.3.
+#[derive(Clone, Copy, Debug)]
+pub struct LinuxRiscv64;
+
+/// POWER of 64 bits, little-endian, with all its calls on Linux 7.3.
+#[derive(Clone, Copy, Debug)]
+pub struct LinuxPpc64le;
+
+/// LoongArch of 64 bits, with all its calls on Linux 7.3.
+#[derive(Clone, Copy, Debug)]
+pub struct LinuxLoongarch64;
 
 impl Machine for X86_64 {
     ghost TOKEN = { spec.x86_64_token };
@@ -241,5 +259,71 @@ impl Machine for LinuxArm {
     #[tactic(auto, unfolding(crate::specs::Machines::linux_arm_table))]
     fn name(number: u32) -> Option<&'static str> {
         linux_name(4, number)
+    }
+}
+
+impl Machine for LinuxRiscv64 {
+    ghost TOKEN = { spec.riscv64_token };
+
+    ghost table = { spec.linux_riscv64_table };
+
+    ghost one_to_one = { whole.linux_riscv64-one_to_one };
+
+    const TOKEN: u32 = RISCV64_TOKEN;
+
+    const SCMP: &'static str = "SCMP_ARCH_RISCV64";
+
+    #[tactic(auto, unfolding(crate::specs::Machines::linux_riscv64_table))]
+    fn number(name: &str) -> Option<u32> {
+        linux_number(5, name)
+    }
+
+    #[tactic(auto, unfolding(crate::specs::Machines::linux_riscv64_table))]
+    fn name(number: u32) -> Option<&'static str> {
+        linux_name(5, number)
+    }
+}
+
+impl Machine for LinuxPpc64le {
+    ghost TOKEN = { spec.ppc64le_token };
+
+    ghost table = { spec.linux_ppc64le_table };
+
+    ghost one_to_one = { whole.linux_ppc64le-one_to_one };
+
+    const TOKEN: u32 = PPC64LE_TOKEN;
+
+    const SCMP: &'static str = "SCMP_ARCH_PPC64LE";
+
+    #[tactic(auto, unfolding(crate::specs::Machines::linux_ppc64le_table))]
+    fn number(name: &str) -> Option<u32> {
+        linux_number(6, name)
+    }
+
+    #[tactic(auto, unfolding(crate::specs::Machines::linux_ppc64le_table))]
+    fn name(number: u32) -> Option<&'static str> {
+        linux_name(6, number)
+    }
+}
+
+impl Machine for LinuxLoongarch64 {
+    ghost TOKEN = { spec.loongarch64_token };
+
+    ghost table = { spec.linux_loongarch64_table };
+
+    ghost one_to_one = { whole.linux_loongarch64-one_to_one };
+
+    const TOKEN: u32 = LOONGARCH64_TOKEN;
+
+    const SCMP: &'static str = "SCMP_ARCH_LOONGARCH64";
+
+    #[tactic(auto, unfolding(crate::specs::Machines::linux_loongarch64_table))]
+    fn number(name: &str) -> Option<u32> {
+        linux_number(7, name)
+    }
+
+    #[tactic(auto, unfolding(crate::specs::Machines::linux_loongarch64_table))]
+    fn name(number: u32) -> Option<&'static str> {
+        linux_name(7, number)
     }
 }

@@ -38,6 +38,23 @@ told_bundles native folder later same old new bundle Is has told h =
       of (Ok t) is = (is.0, is.1, of_first is.0 t is.2)
       of (Err stop) at = at
 
+-- so is one beside another file, which is read last
+pub told_beside : (native : Arch) (folder later : Option Folder) → later ≡ folder → (old new bundle : List ℕ) (Is : List ℕ → Told → Type 0)
+    → HasBundle native folder old bundle → (told : Result Told Stop) → IsToldOf later (new ∷ []) (of_one (λ text. Is bundle)) told
+    → IsToldOf folder (old ∷ new ∷ []) (of_two (λ text other. OfBundle native Is text)) told
+told_beside native folder later same old new bundle Is has told h =
+    told_both folder later same old new has.file (λ text other. OfBundle native Is text) has.is told (of told h) where
+      of_first : (texts : List (List ℕ)) (t : Told) → of_one (λ text. Is bundle) texts t
+          → of_one (λ other. OfBundle native Is has.file) texts t
+      of_first [] t is = absurd is
+      of_first (text ∷ []) t is = record { bundle = bundle; taken = has.taken; is = is }
+      of_first (text ∷ other ∷ more) t is = absurd is
+
+      of : (r : Result Told Stop) → IsToldOf later (new ∷ []) (of_one (λ text. Is bundle)) r
+          → IsToldOf later (new ∷ []) (of_one (λ other. OfBundle native Is has.file)) r
+      of (Ok t) is = (is.0, is.1, of_first is.0 t is.2)
+      of (Err stop) at = at
+
 -- ---- files in turn
 
 one_more_bundle : (native : Arch) (folder : Option Folder) (names texts : List (List ℕ)) (name text : List ℕ)

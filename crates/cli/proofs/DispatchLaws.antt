@@ -11,7 +11,7 @@ use Rattle.explain.specs.Any.{IsExplained as IsExplainedAny}
 use Rattle.explain.specs.Told.{IsExplained}
 use Rattle.wording.specs.declared.told.Told.{Told}
 use Rattle.maker.specs.Answer.{WritesAnswer}
-use Rattle.compare.specs.Behind.{CertifiesBehind}
+use Rattle.compare.specs.Behind.{CertifiesAllBehind, CertifiesBehind}
 use Rattle.compare.specs.Convictions.{TellsAll}
 use Rattle.maker.specs.Certified.{Certifies}
 use Rattle.maker.specs.Exported.{Exports}
@@ -19,18 +19,20 @@ use Rattle.maker.specs.Finding.{WritesFinding}
 use Rattle.cli.specs.declared.stops.Stop.{Stop}
 use Rattle.cli.specs.declared.stops.Stop.TheVariants.{Usage}
 use Rattle.cli.specs.Dispatch.{AnswersAdapt, AnswersAll, AnswersBehind, AnswersCertify, AnswersCheck, AnswersExport, AnswersManual, AnswersReplay}
-use Rattle.cli.specs.Dispatch.{AnswersTold, AnswersVerdict, StopsAtWords}
+use Rattle.cli.specs.Dispatch.{AnswersAllBehind, AnswersRecovered, AnswersTold, AnswersVerdict, ExplainsAllBehind, StopsAtWords}
 use Rattle.cli.specs.Adapted.{AskNothing, IsMadeAs}
+use Rattle.cli.specs.Recovered.{TellsRecovered}
 use Rattle.cli.specs.Written.{WritesMade}
 use Rattle.cli.specs.Told.{IsManual, IsReplayed, OfArguments, of_none, of_one, of_two}
 use Rattle.cli.specs.declared.adapting.Both.{Both}
 use Rattle.cli.specs.Dispatch.{any_call, explained_as, ExplainsBehind, FirstUnread, HaveBytes, StopsAt}
 use Rattle.cli.specs.inner.Telling.{IsAdaptedOf, IsBundleOf, IsInForm, IsManualOf, IsReplayOf, IsToldOf, TellsOn, TellsText, told_in}
-use Rattle.cli.specs.Explained.{TellsBehind}
+use Rattle.cli.specs.Explained.{TellsAllBehind, TellsBehind}
 use Rattle.cli.specs.Files.{Folder, HasBundle, HasBytes, HasEnough}
 use Rattle.cli.specs.Running.{told_line}
 use Rattle.cli.proofs.FormLaws.{stopped_in, told_in_form}
 use Rattle.cli.proofs.TurnLaws.{cut_at}
+use Rattle.cli.proofs.FileLaws.{all_behind_of_file, tells_all_behind_of_file}
 use Rattle.cli.proofs.FileLaws.{behind_of_file, certified_of_file, check_of_file, tells_all_of_file, tells_of_file, verdict_of_files}
 
 abbrev pub now_of : Bor (List ℕ) → List ℕ
@@ -96,6 +98,10 @@ module _ {O : Type 0} (held : O → Option (List ℕ)) (failures : O → Failure
           → AnswersAll held failures folder old old native bundle filter result
       all_first stop result h e = inl (record { stop = stop; at = inl h; told = e; unwritten = refl })
 
+      pub all_behind_first : (stop : Stop) (result : Result Bool Stop) → StopsAt folder bundle stop → result ≡ Err stop
+          → AnswersAllBehind held failures folder old old native bundle filter result
+      all_behind_first stop result h e = inl (record { stop = stop; at = inl h; told = e; unwritten = refl })
+
       pub check_first : (cert : List ℕ) (stop : Stop) (result : Result Bool Stop) → StopsAt folder bundle stop → result ≡ Err stop
           → AnswersCheck held failures folder old old native bundle filter cert result
       check_first cert stop result h e = inl (record { stop = stop; at = inl h; told = e; unwritten = refl })
@@ -117,6 +123,10 @@ module _ {O : Type 0} (held : O → Option (List ℕ)) (failures : O → Failure
         pub all_second : (stop : Stop) (result : Result Bool Stop) → StopsAt later filter stop → result ≡ Err stop
             → AnswersAll held failures folder old old native bundle filter result
         all_second stop result h e = inl (record { stop = stop; at = second [] stop h; told = e; unwritten = refl })
+
+        pub all_behind_second : (stop : Stop) (result : Result Bool Stop) → StopsAt later filter stop → result ≡ Err stop
+            → AnswersAllBehind held failures folder old old native bundle filter result
+        all_behind_second stop result h e = inl (record { stop = stop; at = second [] stop h; told = e; unwritten = refl })
 
         pub check_second : (cert : List ℕ) (stop : Stop) (result : Result Bool Stop) → StopsAt later filter stop → result ≡ Err stop
             → AnswersCheck held failures folder old old native bundle filter cert result
@@ -171,6 +181,32 @@ module _ {O : Type 0} (held : O → Option (List ℕ)) (failures : O → Failure
               written = behind_of_file native b of_filter.file f of_filter.enough held failures old new answer h;
               told = e;
             },
+          )
+
+          pub all_behind_done : (new : O) (answer : Result Bool WriteFault) (result : Result Bool Stop)
+              → CertifiesAllBehind held failures old new native b f answer → result ≡ told_line answer
+              → AnswersAllBehind held failures folder old new native bundle filter result
+          all_behind_done new answer result h e = inr (
+            b,
+            of_filter.file,
+            of_bundle,
+            has_filter,
+            record {
+              answer = answer;
+              written = all_behind_of_file native b of_filter.file f of_filter.enough held failures old new answer h;
+              told = e;
+            },
+          )
+
+          pub all_behind_told : {E : Type 0} (shown : E → Option (List ℕ)) (dropped : E → Failures) (err err' : E) (new : O) (done : Bool)
+              → TellsAllBehind held failures old new shown dropped err err' native b f (Ok done)
+              → ExplainsAllBehind held failures shown dropped folder old new err err' native bundle filter (Ok done)
+          all_behind_told shown dropped err err' new done h = (
+            b,
+            of_filter.file,
+            of_bundle,
+            has_filter,
+            tells_all_behind_of_file native b of_filter.file f of_filter.enough held failures old new (Ok done) shown dropped err err' h,
           )
 
           -- what is told on standard error
@@ -249,6 +285,15 @@ module _ {O : Type 0} (held : O → Option (List ℕ)) (failures : O → Failure
     by told made (inr read) written h =
         inr (answers_told held failures folder (config ∷ []) (of_one Writes) old new result told
         (told_in_form native is.as_bundle folder (config ∷ []) (λ text. OfArguments (IsMadeAs native text) is.others) made told read written) h)
+
+  pub answers_recovered : (native : Arch) (filter : List ℕ) (as_bundle asked : Bool) → as_bundle ≡ asked → (result : Result Bool Stop)
+      (both : Result Both Stop)
+      → IsToldOf folder (filter ∷ []) (of_one (λ text. WritesMade native as_bundle (TellsRecovered native text))) (told_in both)
+      → TellsOn held failures old new (told_in both) result → AnswersRecovered held failures folder old new native asked filter result
+  answers_recovered native filter as_bundle asked same result both is h =
+      subst (λ b. AnswersRecovered held failures folder old new native b filter result) same
+      (answers_told held failures folder (filter ∷ []) (of_one (λ text. WritesMade native as_bundle (TellsRecovered native text))) old new
+      result (told_in both) is h)
 
   pub answers_replayed : (native : Arch) (bundle : List ℕ) (words : List (List ℕ)) (result : Result Bool Stop) (told : Result Told Stop)
       → IsReplayOf folder native bundle words told → TellsOn held failures old new told result

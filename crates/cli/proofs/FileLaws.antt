@@ -1,5 +1,5 @@
 -- What is written of the bytes that are read of files is so of the files' own.
-use Rattle.std.proofs.Common.{◌≡◌, ℕ, ◌-◌, inl, inr, List, [], ap, length, refl, subst, sym, ◌∙◌, arith}
+use Rattle.std.proofs.Common.{◌≡◌, ◌⊎◌, ℕ, ◌-◌, inl, inr, List, [], ap, length, refl, subst, sym, ◌∙◌, arith}
 use Rattle.std.specs.Prelude.{◌≢◌, Bool, true, false, Option, None, Result, Ok, Err, slice_index_or}
 use Rattle.bpf_insn.specs.Bytes.{view_fault}
 use Rattle.bpf_insn.specs.declared.fault.ViewError.TheVariants.{NotMultipleOf8}
@@ -11,7 +11,8 @@ use Rattle.cert_check.specs.declared.fault.CheckError.TheVariants as error
 use Rattle.texts.specs.Failures.{Failures}
 use Rattle.texts.specs.declared.streams.fault.WriteFault.{WriteFault}
 use Rattle.texts.specs.declared.streams.fault.WriteFault.TheVariants as fault
-use Rattle.compare.specs.Behind.{CertifiesBehind, IsBehind, WritesBehind}
+use Rattle.std.proofs.lemmas.Bool.{both_ways}
+use Rattle.compare.specs.Behind.{AreFoundBehind, CertifiesAllBehind, CertifiesBehind, IsBehind, WritesAllBehind, WritesBehind}
 use Rattle.compare.specs.StubTold.{stub_text}
 use Rattle.maker.specs.Answer.{IsAnswer, WritesAnswer}
 use Rattle.maker.specs.Certified.{Certifies, IsConvicted, IsOfFilter, IsOpen, IsUndecided}
@@ -27,8 +28,10 @@ use Rattle.wording.specs.declared.told.Told.{Told}
 use Rattle.compare.specs.declared.behind_runc.stub.calls.Calls.{Calls}
 use Rattle.maker.specs.declared.evidence.evidence.Conviction.{Conviction}
 use Rattle.compare.specs.Convictions.{AllConvict, Convicts, TellsAll}
-use Rattle.cli.specs.Explained.{TellsBehind, TellsStub, WritesSome}
+use Rattle.cli.specs.Explained.{TellsAllBehind, TellsBehind, TellsStub, WritesFound, WritesSome}
 use Rattle.cli.specs.Files.{IsEnough}
+use Rattle.cli.specs.Recovered.{TellsRecovered}
+use Rattle.recover.specs.Recovered.{IsRecovered}
 use Rattle.cli.proofs.EnoughLaws.{all_read, all_read_of, first_of_file, same_fault, whole_filter}
 
 -- the answer of a filter to a record
@@ -146,6 +149,46 @@ module _ (native : Arch) (bundle filter f : List ℕ) (enough : IsEnough 32768 f
       behind_of_file (inl h) = behind_by h.0 h.1 h.2 h.3 h.4
       behind_of_file (inr lacks) = inr lacks
 
+      -- so is what was found where no stub was
+      found_of_file : (found : Conviction) (all : List Conviction) (answered : List Calls) (whole : Bool)
+          → AreFoundBehind native bundle f answered whole found all → AreFoundBehind native bundle filter [] true found all
+      found_of_file found all answered whole h = record {
+        are = record { further = h.are.further; first = h.are.first; convict = all_of_file all h.are.convict };
+        passed = λ no. absurd (both_ways true no refl);
+      }
+
+      all_behind_by : (rest : List ℕ) (answered : List Calls) (whole : Bool) → IsBehind f rest answered
+          → WritesBehind held failures old new native bundle f rest answered whole result
+          ⊎ WritesAllBehind held failures old new native bundle f answered whole result
+          → CertifiesAllBehind held failures old new native bundle filter result
+      all_behind_by rest answered whole (inl has) h =
+          subst (λ x. CertifiesAllBehind held failures old new native bundle x result) (whole_filter filter f enough has.filter_is.program)
+          (inl (rest, answered, whole, inl has, h))
+      all_behind_by rest answered whole (inr same) (inl h) =
+          let written = subst (λ x. WritesBehind held failures old new native bundle f x answered whole result) same.0 h in
+          inl (filter, [], true, inr (refl, refl), inl (whole_behind answered whole result written))
+      all_behind_by rest answered whole (inr same) (inr h) =
+          let all : WritesAllBehind held failures old new native bundle filter [] true result = record {
+            found = h.found;
+            all = h.all;
+            are = found_of_file h.found h.all answered whole h.are;
+            written = h.written;
+          } in
+          inl (filter, [], true, inr (refl, refl), inr all)
+
+      pub all_behind_of_file : CertifiesAllBehind held failures old new native bundle f result
+          → CertifiesAllBehind held failures old new native bundle filter result
+      all_behind_of_file (inl h) = all_behind_by h.0 h.1 h.2 h.3 h.4
+      all_behind_of_file (inr lacks) = inr lacks
+
+      found_written : (rest : List ℕ) (answered : List Calls) (whole : Bool) (all : List Conviction) → rest ≡ f
+          → WritesFound held failures old new native bundle f rest answered whole all result
+          → WritesFound held failures old new native bundle filter filter [] true all result
+      found_written rest answered whole all same (inl h) =
+          let written = subst (λ x. WritesBehind held failures old new native bundle f x answered whole result) same h.1 in
+          inl (h.0, whole_behind answered whole result written)
+      found_written rest answered whole all same (inr h) = inr (h.0, found_of_file h.0 all answered whole h.1, h.2)
+
       module _ {E : Type 0} (shown : E → Option (List ℕ)) (dropped : E → Failures) (err err' : E) where
         -- where no stub was found nothing depends on the bytes
         no_stub : (between : E) (rest : List ℕ) (answered : List Calls) (whole : Bool) → answered ≡ []
@@ -176,6 +219,33 @@ module _ (native : Arch) (bundle filter f : List ℕ) (enough : IsEnough 32768 f
         pub tells_of_file : TellsBehind held failures old new shown dropped err err' native bundle f result
             → TellsBehind held failures old new shown dropped err err' native bundle filter result
         tells_of_file h = tells_by h h.behind
+
+        tells_all_by : (h : TellsAllBehind held failures old new shown dropped err err' native bundle f result) → IsBehind f h.rest h.answered
+            → TellsAllBehind held failures old new shown dropped err err' native bundle filter result
+        tells_all_by h (inl has) =
+            subst (λ x. TellsAllBehind held failures old new shown dropped err err' native bundle x result)
+            (whole_filter filter f enough has.filter_is.program) h
+        tells_all_by h (inr same) = record {
+          rest = filter;
+          answered = [];
+          whole = true;
+          behind = inr (refl, refl);
+          all = h.all;
+          written = found_written h.rest h.answered h.whole h.all same.0 h.written;
+          between = h.between;
+          calls = no_stub h.between h.rest h.answered h.whole same.1 h.calls;
+          each = h.each;
+        }
+
+        pub tells_all_behind_of_file : TellsAllBehind held failures old new shown dropped err err' native bundle f result
+            → TellsAllBehind held failures old new shown dropped err err' native bundle filter result
+        tells_all_behind_of_file h = tells_all_by h h.behind
+
+-- the bundle that means what a filter does
+pub recovered_of_file : (filter f : List ℕ) (enough : IsEnough 32768 filter f) (native : Arch) (told : Told)
+    → TellsRecovered native f told → TellsRecovered native filter told
+recovered_of_file filter f enough native told h =
+    λ done. let is = h done in subst (λ b. IsRecovered native told.bytes.items b) (whole_filter filter f enough is.program) is
 
 -- what is shown of a filter
 module _ (filter f : List ℕ) (enough : IsEnough 32768 filter f) where

@@ -5,6 +5,7 @@ mod ReportLaws
 mod EnoughLaws
 mod FileLaws
 mod FoundLaws
+mod AllBehindLaws
 mod WantedLaws
 mod FormLaws
 mod BundleLaws

@@ -4,7 +4,7 @@ use Rattle.std.specs.Prelude.{Option, Some, Result, Ok, Err}
 use Rattle.call_tables.specs.declared.arch.Arch.{Arch}
 use Rattle.texts.specs.Failures.{Failures}
 use Rattle.texts.specs.declared.streams.fault.WriteFault.{WriteFault}
-use Rattle.compare.specs.Behind.{CertifiesBehind, WritesBehind}
+use Rattle.compare.specs.Behind.{CertifiesAllBehind, CertifiesBehind, WritesBehind}
 use Rattle.compare.specs.declared.behind_runc.stub.calls.Calls.{Calls}
 use Rattle.maker.specs.Certified.{Certifies}
 use Rattle.maker.specs.Finding.{IsFinding, WritesFinding, is_yes}
@@ -13,7 +13,7 @@ use Rattle.maker.specs.declared.check.Finding.TheVariants.{Yes, No, NoProfile}
 use Rattle.cli.specs.declared.stops.Stop.{Stop}
 use Rattle.cli.specs.declared.stops.Stop.TheVariants.{Usage, CannotRead, Read, Write, OutOfMemory}
 use Rattle.command_line.specs.declared.prose.Command.TheVariants.{Certify, Check, Run}
-use Rattle.cli.specs.Dispatch.{AnswersBehind, AnswersCertify, AnswersCheck, AnswersRun, Does}
+use Rattle.cli.specs.Dispatch.{AnswersAllBehind, AnswersBehind, AnswersCertify, AnswersCheck, AnswersRun, Does}
 use Rattle.cli.specs.Parts.{native_of}
 use Rattle.cli.specs.Files.{Folder, HasBundle, HasBytes}
 use Rattle.cli.specs.Running.{HasAnswered, told_line}
@@ -128,6 +128,21 @@ module _ {O : Type 0} (held : O → Option (List ℕ)) (failures : O → Failure
       go (Ok done) (inr lacks) e = let no = lacks.0 in absurd (cc)
       go (Err fault) (inr lacks) e = absurd (no_error e)
 
+  all_behind_told : (folder : Option Folder) (bundle filter : List ℕ)
+      → AnswersAllBehind held failures folder old new native bundle filter (Ok true)
+      → AreRight folder native bundle filter ⊎ AreRightBehind folder native bundle filter
+  all_behind_told folder bundle filter (inl stops) = absurd (no_error stops.told)
+  all_behind_told folder bundle filter (inr (b, f, of_bundle, of_filter, by)) = go by.answer by.written by.told
+    where
+      go : (answer : Result Bool WriteFault) → CertifiesAllBehind held failures old new native b f answer → Ok true ≡ told_line answer
+          → AreRight folder native bundle filter ⊎ AreRightBehind folder native bundle filter
+      go answer (inl (rest, answered, whole, is, inl written)) e =
+          behind folder bundle filter b f rest answered whole answer of_bundle of_filter written e
+      go (Ok done) (inl (rest, answered, whole, is, inr all)) e = let no : done ≡ false = all.written.told in absurd (cc)
+      go (Err fault) (inl (rest, answered, whole, is, inr all)) e = absurd (no_error e)
+      go (Ok done) (inr lacks) e = let no = lacks.0 in absurd (cc)
+      go (Err fault) (inr lacks) e = absurd (no_error e)
+
 -- the answer to a script, where it is known what was read and written
 known : (native : Arch) (texts : List (List ℕ)) (left left' held held' : Option (List ℕ)) → HasAnswered native texts left left' held held'
     → (script before after : List ℕ) → left ≡ Some script → held ≡ Some before → held' ≡ Some after
@@ -169,6 +184,12 @@ module _ {I O : Type 0} (left : I → Option (List ℕ)) (given : I → Failures
       → AreRight folder (native_of machine) bundle filter ⊎ AreRightBehind folder (native_of machine) bundle filter
   behind_is_right machine bundle filter (inl none) = absurd (no_error none.stops)
   behind_is_right machine bundle filter (inr does) = behind_told held taken out out' (native_of machine) folder bundle filter does.1
+
+  pub all_behind_is_right : (machine bundle filter : List ℕ)
+      → Does left given held taken folder input input' out out' (Certify, machine ∷ bundle ∷ filter ∷ codes "runc" ∷ codes "all" ∷ []) (Ok true)
+      → AreRight folder (native_of machine) bundle filter ⊎ AreRightBehind folder (native_of machine) bundle filter
+  all_behind_is_right machine bundle filter (inl none) = absurd (no_error none.stops)
+  all_behind_is_right machine bundle filter (inr does) = all_behind_told held taken out out' (native_of machine) folder bundle filter does.1
 
   pub run_is_answered : (machine : List ℕ) (bundles : List (List ℕ))
       → Does left given held taken folder input input' out out' (Run, machine ∷ bundles) (Ok true)

@@ -1,5 +1,5 @@
 -- THE PROGRAM. What it writes and the status that it ends with, of a command, of files, and of what is read on standard input.
-use Rattle.std.specs.Prelude.{ℕ, ◌≡◌, ◌⊎◌, Bool, true, false, List, [], ◌∷◌, ◌++◌, codes}
+use Rattle.std.specs.Prelude.{ℕ, ◌≡◌, ◌⊎◌, ◌||◌, Bool, true, false, List, [], ◌∷◌, ◌++◌, codes}
 use Rattle.std.specs.Prelude.{if◌then◌else◌, Option, Some, None, Result, Ok, Err}
 use Rattle.std.specs.Str.{bytes_eq}
 use Rattle.call_tables.specs.declared.arch.Arch.{Arch}
@@ -7,7 +7,7 @@ use Rattle.command_line.specs.Lines.{Given}
 use Rattle.command_line.specs.declared.prose.Command.{Command}
 use Rattle.command_line.specs.declared.prose.Command.TheVariants.{Verdict, Check, Certify, Export, Run, Explain, Record, Assemble}
 use Rattle.command_line.specs.declared.prose.Command.TheVariants.{Read, Annotate, Draw, Lint, Compare, Adapt, Learn}
-use Rattle.command_line.specs.declared.prose.Command.TheVariants.{Replay, Manual, Version}
+use Rattle.command_line.specs.declared.prose.Command.TheVariants.{Replay, Recover, Tune, Manual, Version}
 use Rattle.cli.specs.Parts.{Parts, form_of, parts_of}
 use Rattle.texts.specs.Failures.{Failures}
 use Rattle.texts.specs.Sink.{StopsAt as StopsWriting, Wrote}
@@ -18,7 +18,7 @@ use Rattle.wording.specs.declared.told.Told.{Told}
 use Rattle.explain.specs.Any.{IsExplained as IsExplainedAny}
 use Rattle.explain.specs.Audit.{IsAudited}
 use Rattle.show.specs.Shown.{IsAnnotated, IsDrawn}
-use Rattle.compare.specs.Behind.{CertifiesBehind}
+use Rattle.compare.specs.Behind.{CertifiesAllBehind, CertifiesBehind}
 use Rattle.compare.specs.Convictions.{TellsAll}
 use Rattle.compare.specs.Told.{IsCompared}
 use Rattle.compare.specs.FiltersTold.{IsTold}
@@ -33,9 +33,11 @@ use Rattle.maker.specs.Exported.{Exports}
 use Rattle.maker.specs.Finding.{WritesFinding}
 use Rattle.cli.specs.declared.stops.Stop.{Stop}
 use Rattle.cli.specs.declared.stops.Stop.TheVariants.{CannotRead, OutOfMemory, Usage, Write}
-use Rattle.cli.specs.Explained.{TellsBehind, TellsRecord}
+use Rattle.cli.specs.Explained.{TellsAllBehind, TellsBehind, TellsRecord}
 use Rattle.cli.specs.Adapted.{AskNothing, IsMadeAs}
 use Rattle.cli.specs.Read.{TellsLinted, TellsRead, TellsRules}
+use Rattle.cli.specs.Recovered.{TellsRecovered}
+use Rattle.cli.specs.Tuned.{TellsTuned}
 use Rattle.cli.specs.Told.{IsManual, IsNoCommand, IsReplayed, NamesLogs, of_none, of_one, of_two, OfArguments, OfBundle, OfBundles}
 use Rattle.cli.specs.Written.{NamesForm, WritesMade}
 use Rattle.cli.specs.Files.{CannotBeRead, Folder, HasBundle, HasBytes, HasEnough}
@@ -89,19 +91,24 @@ exit_status (Ok true) = 0
 exit_status (Ok false) = 1
 exit_status (Err stop) = status_of stop
 
--- the word behind the files of `certify`
+-- one of the two words behind the files of `certify`
+abbrev pub asks : List ℕ → Parts → Bool
+asks word p = bytes_eq p.four word || bytes_eq p.five word
+
 abbrev pub asks_runc : Parts → Bool
-asks_runc p = bytes_eq p.four (codes "runc")
+asks_runc = asks (codes "runc")
 
 abbrev pub asks_all : Parts → Bool
-asks_all p = bytes_eq p.four (codes "all")
+asks_all = asks (codes "all")
 
--- `adapt` and `learn` tell on standard error what they changed or added, and `certify` with `runc` what the stub answers, also where it
--- was done; no other command does
+-- `adapt` and `learn` tell on standard error what they changed or added, `recover` which form was written or why none was, `tune` what
+-- calls cost, and `certify` with `runc` what the stub answers, also where it was done; no other command does
 abbrev pub TellsChanges : Command → Parts → Type 0
 TellsChanges Certify p = asks_runc p ≡ true
 TellsChanges Adapt p = Unit {0}
 TellsChanges Learn p = Unit {0}
+TellsChanges Recover p = Unit {0}
+TellsChanges Tune p = Unit {0}
 TellsChanges other p = ⊥
 
 -- `certify` also explains there the record by which its answer is no; no other command tells more of a no than of a yes
@@ -164,6 +171,12 @@ module _ {O : Type 0} (held : O → Option (List ℕ)) (failures : O → Failure
       ⊎ ((b : List ℕ) × (f : List ℕ) × HasBundle native folder bundle b × HasBytes folder filter f
       × AnswersBy (CertifiesBehind held failures old new native b f) result)
 
+  abbrev pub AnswersAllBehind : Arch → List ℕ → List ℕ → Result Bool Stop → Type 0
+  AnswersAllBehind native bundle filter result =
+      StopsAtFile folder old new (bundle ∷ filter ∷ []) result
+      ⊎ ((b : List ℕ) × (f : List ℕ) × HasBundle native folder bundle b × HasBytes folder filter f
+      × AnswersBy (CertifiesAllBehind held failures old new native b f) result)
+
   -- with `all` what it writes without, or the lines of records that convict the filter
   abbrev pub AnswersAll : Arch → List ℕ → List ℕ → Result Bool Stop → Type 0
   AnswersAll native bundle filter result =
@@ -186,7 +199,8 @@ module _ {O : Type 0} (held : O → Option (List ℕ)) (failures : O → Failure
 
   -- what `certify` writes, by whether `runc` stands behind the files, and `all`
   abbrev pub AnswersCertified : Bool → Bool → Parts → Result Bool Stop → Type 0
-  AnswersCertified true all p result = AnswersBehind p.native p.two p.three result
+  AnswersCertified true true p result = AnswersAllBehind p.native p.two p.three result
+  AnswersCertified true false p result = AnswersBehind p.native p.two p.three result
   AnswersCertified false true p result = AnswersAll p.native p.two p.three result
   AnswersCertified false false p result = AnswersCertify p.native p.two p.three result
 
@@ -241,6 +255,11 @@ module _ {O : Type 0} (held : O → Option (List ℕ)) (failures : O → Failure
   abbrev pub AnswersLearn : Arch → List (List ℕ) → Result Bool Stop → Type 0
   AnswersLearn native words result =
       (others : List (List ℕ)) × (as_bundle : Bool) × NamesForm words others as_bundle × AnswersNamed native as_bundle others result
+
+  -- the profile that a filter means, in the form that is asked for
+  abbrev pub AnswersRecovered : Arch → Bool → List ℕ → Result Bool Stop → Type 0
+  AnswersRecovered native as_bundle filter result =
+      AnswersTold (filter ∷ []) (of_one (λ text. WritesMade native as_bundle (TellsRecovered native text))) result
 
   -- the commands, or the page of one
   abbrev pub AnswersManual : Option (List ℕ) → Result Bool Stop → Type 0
@@ -312,6 +331,10 @@ module _ {I O : Type 0} (left : I → Option (List ℕ)) (given : I → Failures
   DoesWith Adapt p result = (input' ≡ input) × AnswersAdapt held taken folder out out' p.native p.two p.from_three result
   DoesWith Learn p result = (input' ≡ input) × AnswersLearn held taken folder out out' p.native p.from_two result
   DoesWith Replay p result = (input' ≡ input) × AnswersReplay held taken folder out out' p.native p.two p.from_three result
+  DoesWith Recover p result =
+      (input' ≡ input) × AnswersRecovered held taken folder out out' p.native (bytes_eq p.three (codes "bundle")) p.two result
+  DoesWith Tune p result = (input' ≡ input) × AnswersTold held taken folder out out' (p.two ∷ p.three ∷ [])
+      (of_two (λ text counts. OfBundle p.native (TellsTuned p.native) text)) result
   DoesWith Manual p result = (input' ≡ input) × AnswersManual held taken folder out out' p.first result
   DoesWith Version p result = (input' ≡ input) × AnswersTold held taken folder out out' [] (of_none IsVersion) result
 
@@ -341,8 +364,16 @@ module _ {O E : Type 0} (held : O → Option (List ℕ)) (taken : O → Failures
       × TellsBehind held taken out out' shown dropped err err' native b f (Ok done)
   ExplainsBehind native bundle filter (Err stop) = Unit {0}
 
+  -- what it tells with `all` too
+  abbrev pub ExplainsAllBehind : Arch → List ℕ → List ℕ → Result Bool Stop → Type 0
+  ExplainsAllBehind native bundle filter (Ok done) =
+      (b : List ℕ) × (f : List ℕ) × HasBundle native folder bundle b × HasBytes folder filter f
+      × TellsAllBehind held taken out out' shown dropped err err' native b f (Ok done)
+  ExplainsAllBehind native bundle filter (Err stop) = Unit {0}
+
   abbrev pub ExplainsCertified : Bool → Bool → Parts → Result Bool Stop → Type 0
-  ExplainsCertified true all p result = ExplainsBehind p.native p.two p.three result
+  ExplainsCertified true true p result = ExplainsAllBehind p.native p.two p.three result
+  ExplainsCertified true false p result = ExplainsBehind p.native p.two p.three result
   ExplainsCertified false true p result = Unit {0}
   ExplainsCertified false false p result = ExplainsRecord p.native p.two result
 

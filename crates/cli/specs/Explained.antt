@@ -1,13 +1,16 @@
 -- What stands on standard error beside a call record that `ccell certify` tells.
-use Rattle.std.specs.Prelude.{ℕ, ◌≡◌, ◌⊎◌, ◌-◌, ⊤, Bool, List, length, Option, Result, Ok, Err}
+use Rattle.std.specs.Prelude.{ℕ, ◌≡◌, ◌⊎◌, ◌-◌, ⊤, Bool, List, [], ◌∷◌, length, Option, Result, Ok, Err}
 use Rattle.call_record.specs.declared.layout.Record.{Record}
 use Rattle.call_record.specs.Record.{words}
 use Rattle.call_tables.specs.declared.arch.Arch.{Arch}
 use Rattle.call_tables.specs.Arch.{family_of}
-use Rattle.compare.specs.Behind.{IsBehind, WritesBehind}
+use Rattle.compare.specs.Behind.{AreFoundBehind, IsBehind, WritesBehind}
+use Rattle.compare.specs.Convictions.{WritesLines}
 use Rattle.compare.specs.StubTold.{stub_text}
 use Rattle.maker.specs.evidence.Conviction.{IsCertificate}
+use Rattle.maker.specs.declared.evidence.evidence.Conviction.{Conviction}
 use Rattle.maker.specs.declared.evidence.evidence.Evidence.{Evidence}
+use Rattle.maker.specs.declared.evidence.evidence.Evidence.TheVariants.{Convicting}
 use Rattle.explain.specs.Explanation.{Explains}
 use Rattle.maker.specs.Told.{IsLine}
 use Rattle.maker.specs.declared.unready.Unready.{Unready}
@@ -67,3 +70,37 @@ pub record TellsBehind {O E : Type 0} (held : O → Option (List ℕ)) (failures
   pub between : E
   pub calls : TellsStub shown dropped err between native filter rest answered whole
   pub why : (err' ≡ between) ⊎ TellsRecord held failures out out' shown dropped between err' native bundle
+
+-- each of these records was explained in order, or it was not
+abbrev pub MayTellEach : {E : Type 0} → (E → Option (List ℕ)) → (E → Failures) → Arch → List ℕ → List Conviction → E → E → Type 0
+MayTellEach shown dropped native bundle [] err err' = err' ≡ err
+MayTellEach shown dropped native bundle (found ∷ more) err err' =
+    (between : _) × MayTellWhy shown dropped err between native bundle found.call
+    × MayTellEach shown dropped native bundle more between err'
+
+-- these are the records that were found: none, or the one of the evidence and further ones
+abbrev pub AreFoundOf : Arch → List ℕ → List ℕ → List Calls → Bool → Result Evidence Unready → List Conviction → Type 0
+AreFoundOf native bundle filter answered whole (Ok (Convicting found)) all = AreFoundBehind native bundle filter answered whole found all
+AreFoundOf native bundle filter answered whole other all = all ≡ []
+
+-- the lines of all records that were found behind a stub were written; or what is written without `all`, if no record was found
+abbrev pub WritesFound : {O : Type 0} → (O → Option (List ℕ)) → (O → Failures) → O → O → Arch → List ℕ → List ℕ → List ℕ → List Calls
+    → Bool → List Conviction → Result Bool WriteFault → Type 0
+WritesFound held failures out out' native bundle filter rest answered whole all result =
+    ((all ≡ []) × WritesBehind held failures out out' native bundle filter rest answered whole result)
+    ⊎ ((found : Conviction) × AreFoundBehind native bundle filter answered whole found all × WritesLines held failures out out' all result)
+
+-- The same of all records that are found: on standard error are the calls that the stub answers, and behind them an explanation of each
+-- record whose line was written.
+pub record TellsAllBehind {O E : Type 0} (held : O → Option (List ℕ)) (failures : O → Failures) (out out' : O)
+    (shown : E → Option (List ℕ)) (dropped : E → Failures) (err err' : E) (native : Arch) (bundle filter : List ℕ)
+    (result : Result Bool WriteFault) : Type 0 where
+  pub rest : List ℕ
+  pub answered : List Calls
+  pub whole : Bool
+  pub behind : IsBehind filter rest answered
+  pub all : List Conviction
+  pub written : WritesFound held failures out out' native bundle filter rest answered whole all result
+  pub between : E
+  pub calls : TellsStub shown dropped err between native filter rest answered whole
+  pub each : MayTellEach shown dropped native bundle all between err'

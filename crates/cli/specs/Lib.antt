@@ -11,5 +11,7 @@ pub mod Headline
 pub mod Statuses
 pub mod inner
 pub mod Read
+pub mod Recovered
+pub mod Tuned
 pub mod Input
 pub mod Parts

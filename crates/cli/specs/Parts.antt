@@ -34,7 +34,7 @@ abbrev pub first : List Text → Option Text
 first [] = None
 first (argument ∷ others) = Some argument
 
--- The arguments in the order of the row: the machine that the first calls; the first, if there is one; the first four; all but the first;
+-- The arguments in the order of the row: the machine that the first calls; the first, if there is one; the first five; all but the first;
 -- and all but the first two.
 pub record Parts : Type 0 where
   pub native : Arch
@@ -43,6 +43,7 @@ pub record Parts : Type 0 where
   pub two : Text
   pub three : Text
   pub four : Text
+  pub five : Text
   pub from_two : List Text
   pub from_three : List Text
 
@@ -54,6 +55,7 @@ parts_of arguments = record {
   two = part 1 arguments;
   three = part 2 arguments;
   four = part 3 arguments;
+  five = part 4 arguments;
   from_two = drop 1 arguments;
   from_three = drop 2 arguments;
 }
@@ -67,6 +69,7 @@ read parts = record {
   two = parts.two.now;
   three = parts.three.now;
   four = parts.four.now;
+  five = parts.five.now;
   from_two = texts parts.from_two.now;
   from_three = texts parts.from_three.now;
 }

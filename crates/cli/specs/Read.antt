@@ -19,7 +19,8 @@ pub record HasHint (inner told : Told) : Type 0 where
   pub meant : inner.done ≡ true
   pub done : told.done ≡ true
 
--- What the bundle means, or why it is refused. If the line stands behind what it means, some call gets past the bundle; if not, there is a reason.
+-- What the bundle means, or why it is refused. If the line stands behind what it means, some call gets past the bundle; if not,
+-- there is a reason.
 pub record TellsRead (native : Arch) (bundle : List ℕ) (told : Told) : Type 0 where
   pub inner : Told
   pub is_read : IsReadOut native bundle inner

@@ -14,8 +14,8 @@ use compare::{Behind, behind_stub, judge_behind, stub_text, write_behind};
 use std::alloc::{AllocError, Global};
 use texts::{Sink, WriteFault};
 
-// The lines on the calls that the stub of a filter answers, and on whether the whole filter was judged.
-fn lines_of(
+/// The lines on the calls that the stub of a filter answers, and on whether the whole filter was judged.
+pub(crate) fn lines_of(
     alloc: Global,
     native: Arch,
     filter: &[u8],

@@ -4,6 +4,7 @@
 
 mod adapting;
 mod all;
+mod all_behind;
 mod auditing;
 mod behind;
 mod comparing;
@@ -16,10 +17,12 @@ mod logs;
 mod manual;
 mod parts;
 mod program;
+mod recovering;
 mod run;
 mod showing;
 mod stops;
 mod telling;
+mod tuning;
 
 pub use command_line::{
     COMMANDS, Command, CommandLine, Count, Entry, Meaning, Misuse, Part, read_arguments,

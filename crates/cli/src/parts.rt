@@ -1,5 +1,7 @@
 //! The arguments that stand for the parts of a command, by their places in its row.
-ghost use Rattle.std.specs.Prelude.{◌≡◌, drop, option_map};
+ghost use Rattle.std.specs.Prelude.{◌≡◌, codes, drop, option_map};
+ghost use Rattle.std.specs.Str.{bytes_eq};
+ghost use Rattle.cli.specs.Dispatch as dispatch;
 ghost use Rattle.cli.specs.Parts as spec;
 ghost use Rattle.command_line.specs.Lines.{texts};
 ghost use Rattle.command_line.specs.Table.{words_of};
@@ -19,6 +21,7 @@ pub(crate) struct Parts<'a> {
     pub two: &'a str,
     pub three: &'a str,
     pub four: &'a str,
+    pub five: &'a str,
     /// All but the first.
     pub from_two: &'a [&'a str],
     /// All but the first two.
@@ -92,7 +95,22 @@ pub(crate) fn parts_of<'a>(arguments: &'a [&'a str]) -> Parts<'a>
         two: part(arguments, 1),
         three: part(arguments, 2),
         four: part(arguments, 3),
+        five: part(arguments, 4),
         from_two: from(arguments, 1),
         from_three: from(arguments, 2),
     }
+}
+
+/// Whether one of the two words behind the files is this.
+pub(crate) fn asks(parts: &Parts<'_>, word: &str) -> bool
+    ensures { result ≡ dispatch.asks word.now (spec.read parts.now) }
+{
+    parts.four == word || parts.five == word
+}
+
+/// Whether the bundle is asked for.
+pub(crate) fn asks_bundle(word: &str) -> bool
+    ensures { result ≡ bytes_eq word.now (codes "bundle") }
+{
+    word == "bundle"
 }

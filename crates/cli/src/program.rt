@@ -12,17 +12,20 @@ ghost use Rattle.cli.specs.inner.Telling.{TellsOn, told_in};
 
 use crate::adapting::{Both, adapted};
 use crate::all::certify_all;
+use crate::all_behind::certify_all_behind;
 use crate::behind::certify_behind;
 use crate::comparing;
 use crate::explaining::explain;
 use crate::files::{Files, read_bundle, read_bundles, read_certificate, read_filter, read_record};
 use crate::logs::{learned, replayed};
 use crate::manual::{manual, version};
-use crate::parts::{Form, Parts, form_of, parts_of};
+use crate::parts::{Form, Parts, asks, asks_bundle, form_of, parts_of};
+use crate::recovering::recovered;
 use crate::run::run_bundles;
 use crate::showing::{annotated, drawn, read_out, rules};
 use crate::stops::{Stop, report};
 use crate::telling::{assembled, compared, filters_compared, linted, record, tell};
+use crate::tuning::filter_for_counts;
 use call_tables::Arch;
 use command_line::{Command, advice, read_arguments};
 use maker::{check_line, export_bundle, verdict_line};
@@ -137,7 +140,7 @@ fn tell_both<'a, O: Sink, E: Sink>(
     }
 }
 
-// Certifies a filter, as the word behind the files asks.
+// Certifies a filter, as the words behind the files ask.
 fn certify_as<'a, F: Files, O: Sink, E: Sink>(
     alloc: Global,
     parts: Parts<'a>,
@@ -152,10 +155,15 @@ fn certify_as<'a, F: Files, O: Sink, E: Sink>(
     ensures explained { ExplainsCertified O.held O.failures E.held E.failures (F.folder files.old) out.old out.new err.old err.new
         (asks_runc (read parts.entry)) (asks_all (read parts.entry)) (read parts.entry) result }
 {
-    if parts.four == "runc" {
+    let behind_stub = asks(&parts, "runc");
+    let all = asks(&parts, "all");
+    if behind_stub && all {
+        return certify_all_behind(alloc, parts.native, parts.two, parts.three, files, out, err);
+    }
+    if behind_stub {
         return certify_behind(alloc, parts.native, parts.two, parts.three, files, out, err);
     }
-    if parts.four == "all" {
+    if all {
         return certify_all(alloc, parts.native, parts.two, parts.three, files, out, err);
     }
     certify(alloc, parts.native, parts.two, parts.three, files, out, err)
@@ -261,6 +269,20 @@ fn obey<'a, F: Files, I: Source, O: Sink, E: Sink>(
                 out,
             )
         }
+        Command::Recover => {
+            tell_both(
+                recovered(alloc, native, parts.two, asks_bundle(parts.three), files),
+                out,
+                err,
+            )
+        }
+        Command::Tune => {
+            tell_both(
+                filter_for_counts(alloc, native, parts.two, parts.three, files),
+                out,
+                err,
+            )
+        }
         Command::Manual => tell(manual(alloc, parts.first), out),
         Command::Version => tell(version(alloc), out),
     }
@@ -343,11 +365,14 @@ pub fn dispatch<F: Files, I: Source, O: Sink, E: Sink>(
     // `check` ends with 0 only if the filter is right for the bundle, and `run` only if the script was answered.
     ensures check { (machine bundle filter cert : List ℕ) → IsCommandLine arguments.entry.now (the.Check, machine ∷ bundle ∷ filter ∷ cert ∷ [])
         → result ≡ 0 → AreRight (F.folder files.old) (native_of machine) bundle filter }
-    // So does `certify`; with `runc` the filter is right, or is so but for calls that a stub in front of it answers.
+    // So does `certify`; with `runc`, and with `all` behind it, the filter is right, or is so but for calls that a stub in front of it answers.
     ensures certify { (machine bundle filter : List ℕ) → IsCommandLine arguments.entry.now (the.Certify, machine ∷ bundle ∷ filter ∷ [])
         → result ≡ 0 → AreRight (F.folder files.old) (native_of machine) bundle filter }
     ensures certify_runc { (machine bundle filter : List ℕ)
         → IsCommandLine arguments.entry.now (the.Certify, machine ∷ bundle ∷ filter ∷ codes "runc" ∷ []) → result ≡ 0
+        → AreRight (F.folder files.old) (native_of machine) bundle filter ⊎ AreRightBehind (F.folder files.old) (native_of machine) bundle filter }
+    ensures certify_runc_all { (machine bundle filter : List ℕ)
+        → IsCommandLine arguments.entry.now (the.Certify, machine ∷ bundle ∷ filter ∷ codes "runc" ∷ codes "all" ∷ []) → result ≡ 0
         → AreRight (F.folder files.old) (native_of machine) bundle filter ⊎ AreRightBehind (F.folder files.old) (native_of machine) bundle filter }
     ensures run { (machine : List ℕ) (bundles : List (List ℕ)) → IsCommandLine arguments.entry.now (the.Run, machine ∷ bundles) → result ≡ 0
         → HasRun (F.folder files.old) (native_of machine) bundles (I.left input.old) (O.held out.old) (O.held out.new) }

@@ -2,7 +2,8 @@
 use Rattle.std.specs.Prelude.{ℕ, List, [], ◌∷◌, map, codes}
 use denote.Ref.{Bor}
 use Rattle.command_line.specs.declared.meanings.Meaning.{Meaning}
-use Rattle.command_line.specs.declared.meanings.Meaning.TheVariants.{Machine, Form, Certified, ReadAs, ShownAs, Compared}
+use Rattle.command_line.specs.declared.meanings.Meaning.TheVariants.{Machine, Form, Certified, CertifiedToo}
+use Rattle.command_line.specs.declared.meanings.Meaning.TheVariants.{ReadAs, ShownAs, WrittenAs, Compared}
 use Rattle.command_line.specs.declared.prose.Command.{Command}
 use Rattle.command_line.specs.declared.table.TheConstants.{COMMANDS}
 
@@ -42,10 +43,14 @@ rows = map (λ entry. record {
 
 -- the words that may stand for a part; where none is named, any
 abbrev pub words_of : Meaning → List Text
-words_of Machine = codes "linux-x86-64" ∷ codes "linux-aarch64" ∷ codes "x86-64" ∷ codes "aarch64" ∷ []
+words_of Machine =
+    codes "linux-x86-64" ∷ codes "linux-aarch64" ∷ codes "linux-riscv64" ∷ codes "linux-ppc64le"
+    ∷ codes "linux-loongarch64" ∷ codes "x86-64" ∷ codes "aarch64" ∷ []
 words_of Form = codes "raw" ∷ codes "listing" ∷ codes "cert" ∷ []
 words_of Certified = codes "runc" ∷ codes "all" ∷ []
+words_of CertifiedToo = codes "runc" ∷ codes "all" ∷ []
 words_of ReadAs = codes "rules" ∷ []
 words_of ShownAs = codes "cost" ∷ []
+words_of WrittenAs = codes "bundle" ∷ []
 words_of Compared = codes "atmost" ∷ codes "filters" ∷ []
 words_of other = []

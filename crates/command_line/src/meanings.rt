@@ -14,7 +14,9 @@ pub enum Meaning {
     ReadAs,
     Filter,
     ShownAs,
+    WrittenAs,
     Certified,
+    CertifiedToo,
     Record,
     Certificate,
     Listing,
@@ -25,6 +27,7 @@ pub enum Meaning {
     Word,
     LearnedLog,
     ReplayedLog,
+    Counts,
     Command,
 }
 
@@ -33,7 +36,7 @@ impl Meaning {
     pub(crate) fn text(self) -> &'static str {
         match self {
             Meaning::Machine => {
-                "the machine: linux-.. has all calls of Linux 7.3, the others about a hundred\n[possible values: linux-x86-64, linux-aarch64, x86-64, aarch64]"
+                "the machine: linux-.. has all calls of Linux 7.3, the others about a hundred\n[possible values: linux-x86-64, linux-aarch64, linux-riscv64, linux-ppc64le,\nlinux-loongarch64, x86-64, aarch64]"
             }
             Meaning::Bundle => { "a file with linux.seccomp of the OCI Runtime Specification" }
             Meaning::Bundles => { "files with linux.seccomp of the OCI Runtime Specification" }
@@ -49,9 +52,13 @@ impl Meaning {
             Meaning::ShownAs => {
                 "what is shown in place of the listing is what the filter costs the calls of the machine\n[possible values: cost]"
             }
+            Meaning::WrittenAs => {
+                "the config.json is written, and not its section\n[possible values: bundle]"
+            }
             Meaning::Certified => {
                 "the filter is of runc, which puts its ENOSYS stub in front; or all calls are reported that differ\n[possible values: runc, all]"
             }
+            Meaning::CertifiedToo => { "the other of the two\n[possible values: runc, all]" }
             Meaning::Record => { "a file with the 64 bytes of struct seccomp_data" }
             Meaning::Certificate => { "a file that certify wrote" }
             Meaning::Listing => { "a file with the text of a filter" }
@@ -76,6 +83,9 @@ impl Meaning {
             Meaning::ReplayedLog => {
                 "files that 'strace -f -n -e raw=all -o LOG' wrote\n[possible values: unused]"
             }
+            Meaning::Counts => {
+                "a file with the name of a call and how often it is made on each line"
+            }
             Meaning::Command => { "the name of a command" }
         }
     }
@@ -85,11 +95,20 @@ impl Meaning {
         ensures { map (λ word. word.now) result.now ≡ words_of self }
     {
         match self {
-            Meaning::Machine => &["linux-x86-64", "linux-aarch64", "x86-64", "aarch64"],
+            Meaning::Machine => &[
+                "linux-x86-64",
+                "linux-aarch64",
+                "linux-riscv64",
+                "linux-ppc64le",
+                "linux-loongarch64",
+                "x86-64",
+                "aarch64",
+            ],
             Meaning::Form => &["raw", "listing", "cert"],
-            Meaning::Certified => &["runc", "all"],
+            Meaning::Certified | Meaning::CertifiedToo => &["runc", "all"],
             Meaning::ReadAs => &["rules"],
             Meaning::ShownAs => &["cost"],
+            Meaning::WrittenAs => &["bundle"],
             Meaning::Compared => &["atmost", "filters"],
             _ => &[],
         }

@@ -21,6 +21,8 @@ pub enum Command {
     Assemble,
     Annotate,
     Draw,
+    Recover,
+    Tune,
     Manual,
     Version,
 }
@@ -45,7 +47,8 @@ record that the filter gets wrong. Standard error explains it.
 With runc, the stub that runc puts in front of a filter is judged by itself: standard error lists
 the calls that it answers ENOSYS. If the bundle refuses them by its default, without a kill, and names none
 of them, the certificate is of the filter behind the stub. Otherwise the whole filter is judged.
-With all, a filter without a certificate gets a record of each call that is found on which it differs.
+With all, a filter without a certificate gets a record of each call that is found on which it differs;
+with both, also a filter behind the stub.
 Status 0, or 1 and a line that begins with 'no' or 'refused'.
 
 Example: ccell certify linux-x86-64 web.json web.bpf > web.cert
@@ -177,6 +180,24 @@ Status 0, or 1 if the kernel refuses the filter, with the cause in the last line
 Example: ccell draw linux-x86-64 web.bpf | dot -Tsvg > web.svg
 ";
 
+const RECOVER: &str =
+    "Writes the section that any filter means: each call gets the filter's verdict, whatever its arguments
+are, as certify shows it. With bundle it writes the config.json of runc and crun.
+Status 0, or 1 if no section means the same, with a call that shows why.
+
+Example: ccell recover linux-x86-64 service.bpf > service.json
+";
+
+const TUNE: &str =
+    "Writes a filter that export could have written, in another order: for calls that are made as often as
+the file counts them, it runs the fewest instructions that are found, and is at most a tenth longer. The
+checker has answered yes. Calls that Linux answers without running a filter count as none. Standard
+error reports the instructions a call before and after.
+Status 0, or 1 and a line that begins with 'refused'.
+
+Example: ccell tune linux-x86-64 web.json web.counts > web.bpf
+";
+
 const MANUAL: &str = "Reports how a command is used, or which commands there are.
 Status 0, or 2 if there is no such command.
 
@@ -212,6 +233,8 @@ impl Command {
             Command::Assemble => ASSEMBLE,
             Command::Annotate => ANNOTATE,
             Command::Draw => DRAW,
+            Command::Recover => RECOVER,
+            Command::Tune => TUNE,
             Command::Manual => MANUAL,
             Command::Version => VERSION,
         }

@@ -37,7 +37,11 @@ const FILTER: Part = ("FILTER", Meaning::Filter);
 
 const SHOWN_AS: Part = ("WORD", Meaning::ShownAs);
 
+const WRITTEN_AS: Part = ("WORD", Meaning::WrittenAs);
+
 const CERTIFIED: Part = ("WORD", Meaning::Certified);
+
+const CERTIFIED_TOO: Part = ("OTHER", Meaning::CertifiedToo);
 
 const RECORD: Part = ("RECORD", Meaning::Record);
 
@@ -59,6 +63,8 @@ const LEARNED_LOG: Part = ("LOG", Meaning::LearnedLog);
 
 const REPLAYED_LOG: Part = ("LOG", Meaning::ReplayedLog);
 
+const COUNTS: Part = ("COUNTS", Meaning::Counts);
+
 const COMMAND: Part = ("COMMAND", Meaning::Command);
 
 /// The commands of the program.
@@ -79,8 +85,8 @@ pub const COMMANDS: &[Entry] = &[
     ),
     (
         "certify",
-        (3, 4),
-        &[MACHINE, BUNDLE, FILTER, CERTIFIED],
+        (3, 5),
+        &[MACHINE, BUNDLE, FILTER, CERTIFIED, CERTIFIED_TOO],
         "a certificate for any filter, or a counterexample",
         Command::Certify,
     ),
@@ -174,6 +180,20 @@ pub const COMMANDS: &[Entry] = &[
         &[MACHINE, FILTER],
         "the graph of any filter, in the language of Graphviz",
         Command::Draw,
+    ),
+    (
+        "recover",
+        (2, 3),
+        &[MACHINE, FILTER, WRITTEN_AS],
+        "the profile that any filter means",
+        Command::Recover,
+    ),
+    (
+        "tune",
+        (3, 3),
+        &[MACHINE, BUNDLE, COUNTS],
+        "a checked filter for a bundle, by how often its calls are made",
+        Command::Tune,
     ),
     (
         "manual",

@@ -17,7 +17,7 @@ use Rattle.differ.specs.declared.direction.Direction.TheVariants.{Any, More, Les
 use Rattle.differ.specs.declared.found.Found.{Found}
 use Rattle.differ.specs.declared.gathered.Differences.{Differences}
 use Rattle.differ.specs.declared.named.Call.{Call}
-use Rattle.differ.specs.inner.Named.{is_call, is_named}
+use Rattle.differ.specs.Named.{is_call, is_named}
 use Rattle.compare.specs.Complete.{AreComplete, AreListed, IsAnswered, IsCovered, differences_in, is_crowded, is_crowded_with, is_on, is_same, is_with, told_of}
 use Rattle.compare.specs.Difference.{IsChange, IsDifference, IsLike, SayTheSame}
 use Rattle.compare.specs.NoMore.{AllowsNoMore}

@@ -1,17 +1,19 @@
 -- What gets past a profile, as lines tell it.
 use Rattle.std.proofs.Common.{◌≡◌, ◌≢◌, ℕ, inl, inr, true, false, List, [], ◌∷◌, refl, ap, ◌∙◌, sym}
-use Rattle.std.proofs.lemmas.Bool.{both_ways, eq-eqb}
-use Rattle.std.proofs.lemmas.List.Elements.{All-head}
+use Rattle.std.proofs.Common.{◌==◌, ◌&&◌, ◌||◌, ◌⊎◌, subst}
+use Rattle.std.proofs.lemmas.Bool.{and_parts, both_ways, cases_Bool, eq-eqb, eqb-true}
+use Rattle.std.proofs.lemmas.List.Elements.{All-head, All-tail}
 use Rattle.std.specs.List.{All, list_any}
 use Rattle.call_tables.specs.declared.arch.Family.{Family}
 use Rattle.differ.specs.declared.named.Call.{Call}
-use Rattle.differ.specs.inner.Named.{is_named}
+use Rattle.differ.specs.Named.{is_named}
 use Rattle.profile.specs.Policy.{Policy}
 use Rattle.unread_bits.specs.Crowded.{AreCrowded}
-use Rattle.unread_bits.specs.Past.{AreAllPast, GetsPast}
+use Rattle.unread_bits.specs.Past.{AreAllPast, GetsPast, NoneGetsPast, is_past_of}
 use Rattle.unread_bits.specs.declared.calls.AllPast.{AllPast}
 use Rattle.unread_bits.specs.declared.past.Past.{Past}
 use Rattle.compare.specs.Complete.{is_crowded}
+use Rattle.compare.specs.Hints.{IsLeftOpen}
 use Rattle.compare.specs.Past.{ArePast, IsUndecided}
 use Rattle.compare.specs.declared.search.Crowded.{Crowded}
 
@@ -21,10 +23,45 @@ some_gets_past p [] all some = absurd (some refl)
 some_gets_past p (x ∷ xs) all some = (x, All-head (GetsPast p) x xs all)
 
 -- one of some calls that are not decided
-pub some_crowded : (family : Family) (p : Policy) (list : List Crowded) → All (IsUndecided family p) list → (list ≢ [])
+some_crowded : (family : Family) (p : Policy) (list : List Crowded) → All (IsUndecided family p) list → (list ≢ [])
     → (token : ℕ) × (nr : ℕ) × AreCrowded p token nr
 some_crowded family p [] all some = absurd (some refl)
 some_crowded family p (x ∷ xs) all some = (x.token, x.nr, (All-head (IsUndecided family p) x xs all).is)
+
+-- a call that is among those that are not decided
+crowded_is : (family : Family) (p : Policy) (list : List Crowded) (t n : ℕ) → All (IsUndecided family p) list
+    → list_any (is_crowded t n) list ≡ true → AreCrowded p t n
+crowded_is family p [] t n all h = absurd (both_ways false refl h)
+crowded_is family p (x ∷ xs) t n all h = elim (cases_Bool (is_crowded t n x)) [
+  | inl here ↦
+      let parts = and_parts (t == x.token) (n == x.nr) here in
+      let token : t ≡ x.token = eqb-true t x.token parts.0 in
+      let nr : n ≡ x.nr = eqb-true n x.nr parts.1 in
+      subst (λ a. AreCrowded p a n) (sym token)
+      (subst (λ b. AreCrowded p x.token b) (sym nr) (All-head (IsUndecided family p) x xs all).is)
+  | inr other ↦
+      crowded_is family p xs t n (All-tail (IsUndecided family p) x xs all)
+      (subst (λ b. (b || list_any (is_crowded t n) xs) ≡ true) other h)
+]
+
+none_or_open : (family : Family) (p : Policy) (list : List Past) (crowded : List Crowded) (t n : ℕ) → All (IsUndecided family p) crowded
+    → list ≡ [] → NoneGetsPast p t n ⊎ ((list_any (is_past_of t n) list ≡ true) ⊎ (list_any (is_crowded t n) crowded ≡ true))
+    → NoneGetsPast p t n ⊎ AreCrowded p t n
+none_or_open family p list crowded t n undecided none h = elim h [
+  | inl not_past ↦ inl not_past
+  | inr other ↦ elim other [
+    | inl told ↦ absurd (both_ways false refl (ap (list_any (is_past_of t n)) (sym none) ∙ told))
+    | inr more ↦ inr (crowded_is family p crowded t n undecided more)
+  ]
+]
+
+-- where calls are not decided and no other gets past
+pub left_open : (family : Family) (p : Policy) (list : List Past) (crowded : List Crowded) → ArePast family p list crowded → list ≡ []
+    → (crowded ≢ []) → IsLeftOpen p
+left_open family p list crowded are none some = record {
+  undecided = some_crowded family p crowded are.are_crowded some;
+  others = λ t n on. none_or_open family p list crowded t n are.are_crowded none (are.complete t n on);
+}
 
 -- the crowded calls are named
 abbrev pub AreNamed : List Call → List Crowded → Type 0

@@ -1,13 +1,15 @@
 -- Whether a bundle gets the hint that calls get past it.
-use Rattle.std.specs.Prelude.{ℕ, ◌≢◌, ◌<◌, ◌⊎◌, List, IfSome, length}
+use Rattle.std.specs.Prelude.{◌≡◌, ℕ, ◌≢◌, ◌<◌, ◌⊎◌, true, List, IfSome, length}
+use Rattle.std.specs.List.{list_any}
 use Rattle.call_tables.specs.declared.arch.Arch.{Arch}
 use Rattle.profile.specs.Policy.{Policy}
 use Rattle.profile_json.specs.Breaks.{Breaks}
 use Rattle.profile_json.specs.Fault.{fault_of}
 use Rattle.profile_json.specs.declared.fault.ProfileError.{ProfileError}
 use Rattle.profile_json.specs.declared.fault.ProfileError.TheVariants.{OutOfMemory}
+use Rattle.differ.specs.OnCall.{is_for}
 use Rattle.unread_bits.specs.Crowded.{AreCrowded}
-use Rattle.unread_bits.specs.Past.{GetsPast, NothingGetsPast}
+use Rattle.unread_bits.specs.Past.{GetsPast, NoneGetsPast, NothingGetsPast}
 use Rattle.unread_bits.specs.declared.past.Past.{Past}
 use Rattle.widths.specs.Narrow.{IsBundle}
 
@@ -15,9 +17,14 @@ use Rattle.widths.specs.Narrow.{IsBundle}
 abbrev pub SomeGetPast : Arch → List ℕ → Type 0
 SomeGetPast native bundle = (p : Policy) × IsBundle native bundle p × (past : Past) × GetsPast p past
 
--- nothing gets past a profile, or of some call it is not decided
+-- some call is not decided, and of each other call that a rule is for, none gets past
+pub record IsLeftOpen (p : Policy) : Type 0 where
+  pub undecided : (token : ℕ) × (nr : ℕ) × AreCrowded p token nr
+  pub others : (token nr : ℕ) → list_any (is_for token nr) p.rules ≡ true → NoneGetsPast p token nr ⊎ AreCrowded p token nr
+
+-- nothing gets past a profile, as far as its calls are decided
 abbrev pub IsUnpassed : Policy → Type 0
-IsUnpassed p = NothingGetsPast p ⊎ ((token : ℕ) × (nr : ℕ) × AreCrowded p token nr)
+IsUnpassed p = NothingGetsPast p ⊎ IsLeftOpen p
 
 -- the longest bundle that is looked at, in bytes
 abbrev pub most_hinted : ℕ

@@ -6,7 +6,7 @@ ghost use Rattle.differ.specs.OnCall.{AreCrowded, IsFound};
 ghost use Rattle.profile.specs.Policy.{Policy};
 ghost use Rattle.differ.specs.declared.direction.Direction.{Direction as TheDirection};
 ghost use Rattle.differ.specs.declared.direction.Direction.TheVariants.{Any};
-ghost use Rattle.differ.specs.inner.Named.{is_named};
+ghost use Rattle.differ.specs.Named.{is_named};
 ghost use Rattle.compare.specs.Complete.{IsCrowded, is_crowded, is_on};
 ghost use Rattle.compare.specs.Difference.{IsDifference};
 ghost use Rattle.compare.specs.Past.{IsUndecided};

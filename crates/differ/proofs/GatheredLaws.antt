@@ -7,7 +7,7 @@ use Rattle.std.proofs.lemmas.List.Elements.{All-nil, All-push, All-same}
 use Rattle.call_record.specs.Record.{words}
 use Rattle.call_record.specs.Words.{word}
 use Rattle.call_record.specs.Verdict.{is_through}
-use Rattle.call_tables.specs.Machines.{aarch64_token, arm_token, x86_64_token, x86_token}
+use Rattle.call_tables.specs.Machines.{aarch64_token, arm_token, loongarch64_token, ppc64le_token, riscv64_token, x86_64_token, x86_token}
 use Rattle.profile.specs.Policy.{Policy}
 use Rattle.differ.specs.OnCall.{AreCrowded, AreLikeOnCall, IsFound, is_for}
 use Rattle.differ.specs.Direction.{tells}
@@ -18,7 +18,7 @@ use Rattle.differ.specs.declared.gathered.Differences.{Differences}
 use Rattle.differ.specs.declared.found.Found.{Found}
 use Rattle.differ.specs.declared.named.Call.{Call}
 use Rattle.differ.specs.inner.Extended.{Extends}
-use Rattle.differ.specs.inner.Named.{AreCovered, is_call, is_named}
+use Rattle.differ.specs.Named.{AreCovered, is_call, is_named}
 use Rattle.differ.proofs.NamedLaws.{AreListed, by_machine}
 
 -- ---- tests of lists

@@ -7,10 +7,10 @@ use Rattle.std.proofs.lemmas.List.Elements.{All-head, All-tail}
 use Rattle.call_record.specs.Words.{word, words_from}
 use Rattle.call_record.proofs.RecordLemmas.{words_from-is_record}
 use Rattle.call_tables.specs.declared.arch.Arch.{Arch}
-use Rattle.call_tables.specs.declared.arch.Arch.TheVariants.{X86_64, Aarch64, LinuxX86_64, LinuxX86, LinuxX32, LinuxAarch64, LinuxArm}
+use Rattle.call_tables.specs.declared.arch.Arch.TheVariants.{X86_64, Aarch64, LinuxX86_64, LinuxX86, LinuxX32, LinuxAarch64, LinuxArm, LinuxRiscv64, LinuxPpc64le, LinuxLoongarch64}
 use Rattle.call_tables.specs.declared.numbers.Numbers.{Numbers}
 use Rattle.call_tables.specs.Arch.{token_of}
-use Rattle.call_tables.specs.Machines.{aarch64_token, arm_token, x86_64_token, x86_token}
+use Rattle.call_tables.specs.Machines.{aarch64_token, arm_token, loongarch64_token, ppc64le_token, riscv64_token, x86_64_token, x86_token}
 use Rattle.call_tables.specs.Numbers.{IsWithin, has_call, is_within, own_numbers}
 use Rattle.profile.specs.declared.rules.Rule.{Rule}
 use Rattle.profile.specs.Policy.{Policy, IsClear}
@@ -21,7 +21,7 @@ use Rattle.differ.specs.declared.direction.Direction.TheVariants.{Any, More, Les
 use Rattle.differ.specs.declared.named.Call.{Call}
 use Rattle.differ.specs.Direction.{tells}
 use Rattle.differ.specs.OnCall.{AreLikeOn, AreLikeOnCall, IsOfCall, is_for}
-use Rattle.differ.specs.inner.Named.{AreCovered, IsCovered, is_call, is_named, low_numbers, high_numbers, last_number}
+use Rattle.differ.specs.Named.{AreCovered, IsCovered, is_call, is_named, low_numbers, high_numbers, last_number}
 use Rattle.differ.proofs.OpenLaws.{all_left, all_right, native_is, said_by, said_named}
 
 -- ---- lists of calls
@@ -123,6 +123,9 @@ own_same n m k LinuxX86 = rw (k.from_0, k.to_last) refl
 own_same n m k LinuxX32 = rw (k.from_high, k.to_high) refl
 own_same n m k LinuxAarch64 = rw (k.from_0, k.to_last) refl
 own_same n m k LinuxArm = rw (k.from_0, k.to_last) refl
+own_same n m k LinuxRiscv64 = rw (k.from_0, k.to_last) refl
+own_same n m k LinuxPpc64le = rw (k.from_0, k.to_last) refl
+own_same n m k LinuxLoongarch64 = rw (k.from_0, k.to_last) refl
 
 native_same : (token n m : ℕ) → AreOfKind n m → (machines : List Arch) → list_any (has_call token n) machines ≡ list_any (has_call token m) machines
 native_same token n m k [] = refl
@@ -156,6 +159,9 @@ pub record AreListed (p q : Policy) (named rest : List Call) : Type 0 where
   pub x86 : AreCovered named rest x86_token
   pub aarch64 : AreCovered named rest aarch64_token
   pub arm : AreCovered named rest arm_token
+  pub riscv64 : AreCovered named rest riscv64_token
+  pub ppc64le : AreCovered named rest ppc64le_token
+  pub loongarch64 : AreCovered named rest loongarch64_token
 
 pub no_rule : (named : List Call) (rules : List Rule) (t n : ℕ) → ((t n : ℕ) → list_any (is_for t n) rules ≡ true → is_named named t n ≡ true)
     → is_named named t n ≡ false → list_any (is_for t n) rules ≡ false
@@ -215,15 +221,23 @@ by_token p q named rest direction token n r l like fits small unnamed covered of
     ]
 
 -- no machine has the token
-no_machine : (token n : ℕ) → token ≢ x86_64_token → token ≢ x86_token → token ≢ aarch64_token → token ≢ arm_token → (arch : Arch)
-    → has_call token n arch ≡ false
-no_machine token n a b c d X86_64 = ap (λ t. t && list_any (is_within n) (own_numbers X86_64)) (ne_eqb x86_64_token token (λ e. a (sym e)))
-no_machine token n a b c d Aarch64 = ap (λ t. t && list_any (is_within n) (own_numbers Aarch64)) (ne_eqb aarch64_token token (λ e. c (sym e)))
-no_machine token n a b c d LinuxX86_64 = ap (λ t. t && list_any (is_within n) (own_numbers LinuxX86_64)) (ne_eqb x86_64_token token (λ e. a (sym e)))
-no_machine token n a b c d LinuxX86 = ap (λ t. t && list_any (is_within n) (own_numbers LinuxX86)) (ne_eqb x86_token token (λ e. b (sym e)))
-no_machine token n a b c d LinuxX32 = ap (λ t. t && list_any (is_within n) (own_numbers LinuxX32)) (ne_eqb x86_64_token token (λ e. a (sym e)))
-no_machine token n a b c d LinuxAarch64 = ap (λ t. t && list_any (is_within n) (own_numbers LinuxAarch64)) (ne_eqb aarch64_token token (λ e. c (sym e)))
-no_machine token n a b c d LinuxArm = ap (λ t. t && list_any (is_within n) (own_numbers LinuxArm)) (ne_eqb arm_token token (λ e. d (sym e)))
+no_machine : (token n : ℕ) → ((arch : Arch) → token ≢ token_of arch) → (arch : Arch) → has_call token n arch ≡ false
+no_machine token n other arch =
+    ap (λ t. t && list_any (is_within n) (own_numbers arch)) (ne_eqb (token_of arch) token (λ e. other arch (sym e)))
+
+-- none of these tokens
+no_token : (token : ℕ) → token ≢ x86_64_token → token ≢ x86_token → token ≢ aarch64_token → token ≢ arm_token → token ≢ riscv64_token
+    → token ≢ ppc64le_token → token ≢ loongarch64_token → (arch : Arch) → token ≢ token_of arch
+no_token token a b c d e f g X86_64 = a
+no_token token a b c d e f g Aarch64 = c
+no_token token a b c d e f g LinuxX86_64 = a
+no_token token a b c d e f g LinuxX86 = b
+no_token token a b c d e f g LinuxX32 = a
+no_token token a b c d e f g LinuxAarch64 = c
+no_token token a b c d e f g LinuxArm = d
+no_token token a b c d e f g LinuxRiscv64 = e
+no_token token a b c d e f g LinuxPpc64le = f
+no_token token a b c d e f g LinuxLoongarch64 = g
 
 none_native : (token n : ℕ) → ((arch : Arch) → has_call token n arch ≡ false) → (machines : List Arch) → list_any (has_call token n) machines ≡ false
 none_native token n h [] = refl
@@ -260,7 +274,17 @@ by_machine p q named rest direction token n r l like fits small unnamed of =
           | inl is ↦ go aarch64_token l.aarch64 is
           | inr c ↦ elim (cases_eq token arm_token) [
             | inl is ↦ go arm_token l.arm is
-            | inr d ↦ by_none p q direction token n r l.clear_p l.clear_q of (no_machine token n a b c d)
+            | inr d ↦ elim (cases_eq token riscv64_token) [
+              | inl is ↦ go riscv64_token l.riscv64 is
+              | inr e ↦ elim (cases_eq token ppc64le_token) [
+                | inl is ↦ go ppc64le_token l.ppc64le is
+                | inr f ↦ elim (cases_eq token loongarch64_token) [
+                  | inl is ↦ go loongarch64_token l.loongarch64 is
+                  | inr g ↦
+                      by_none p q direction token n r l.clear_p l.clear_q of (no_machine token n (no_token token a b c d e f g))
+                ]
+              ]
+            ]
           ]
         ]
       ]

@@ -9,7 +9,7 @@ use Rattle.differ.specs.declared.direction.Direction.TheVariants.{Any}
 use Rattle.differ.specs.declared.gathered.Differences.{Differences}
 use Rattle.differ.specs.declared.found.Found.{Found}
 use Rattle.differ.specs.declared.named.Call.{Call}
-use Rattle.differ.specs.inner.Named.{is_named}
+use Rattle.differ.specs.Named.{is_named}
 
 -- the record is of a call with this token, and the verdicts are unlike in the direction
 abbrev pub is_with : ℕ → Direction → Found → Bool

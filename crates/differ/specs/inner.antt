@@ -1,4 +1,3 @@
 pub mod Branch
 pub mod Open
-pub mod Named
 pub mod Extended

@@ -3,8 +3,8 @@ ghost use Rattle.std.specs.Prelude.{◌≡◌, ℕ, true, IfOk};
 ghost use Rattle.std.specs.List.{list_any};
 ghost use Rattle.profile.specs.Policy.{IsClear};
 ghost use Rattle.differ.specs.OnCall.{is_for};
-ghost use Rattle.call_tables.specs.Machines.{aarch64_token, arm_token, x86_64_token, x86_token};
-ghost use Rattle.differ.specs.inner.Named.{AreCovered, is_named};
+ghost use Rattle.call_tables.specs.Machines.{aarch64_token, arm_token, loongarch64_token, ppc64le_token, riscv64_token, x86_64_token, x86_token};
+ghost use Rattle.differ.specs.Named.{AreCovered, is_named};
 
 use crate::named::{Call, add_rest, add_rules};
 use call_tables::Arch;
@@ -17,12 +17,18 @@ pub(crate) fn rest_of(alloc: Global, named: &[Call]) -> Result<Vec<Call>, AllocE
     ensures x86 { IfOk result (λ rest. AreCovered named.now rest.items x86_token) }
     ensures aarch64 { IfOk result (λ rest. AreCovered named.now rest.items aarch64_token) }
     ensures arm { IfOk result (λ rest. AreCovered named.now rest.items arm_token) }
+    ensures riscv64 { IfOk result (λ rest. AreCovered named.now rest.items riscv64_token) }
+    ensures ppc64le { IfOk result (λ rest. AreCovered named.now rest.items ppc64le_token) }
+    ensures loongarch64 { IfOk result (λ rest. AreCovered named.now rest.items loongarch64_token) }
 {
     let mut rest = Vec::new(alloc);
     add_rest(named, &mut rest, Arch::LinuxX86_64.token())?;
     add_rest(named, &mut rest, Arch::LinuxX86.token())?;
     add_rest(named, &mut rest, Arch::LinuxAarch64.token())?;
     add_rest(named, &mut rest, Arch::LinuxArm.token())?;
+    add_rest(named, &mut rest, Arch::LinuxRiscv64.token())?;
+    add_rest(named, &mut rest, Arch::LinuxPpc64le.token())?;
+    add_rest(named, &mut rest, Arch::LinuxLoongarch64.token())?;
     Ok(rest)
 }
 

@@ -5,7 +5,7 @@ ghost use Rattle.differ.specs.Differences.{AreAll, AreAllIn, AreTold, IsAnswered
 ghost use Rattle.differ.specs.declared.direction.Direction.{Direction as TheDirection};
 ghost use Rattle.differ.specs.declared.direction.Direction.TheVariants.{Any};
 ghost use Rattle.differ.specs.inner.Extended.{Extends};
-ghost use Rattle.differ.specs.inner.Named.{is_named};
+ghost use Rattle.differ.specs.Named.{is_named};
 
 use crate::direction::{Direction, tells};
 use crate::everywhere::{named_calls, rest_of};

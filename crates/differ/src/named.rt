@@ -3,7 +3,7 @@ ghost use Rattle.std.specs.Prelude.{◌≡◌, ◌≤◌, ◌++◌, ℕ, true, f
 ghost use Rattle.std.specs.List.{list_any};
 ghost use Rattle.call_tables.specs.Numbers.{IsWithin};
 ghost use Rattle.differ.specs.OnCall.{is_for};
-ghost use Rattle.differ.specs.inner.Named.{AreCovered, IsCovered, is_call, is_named};
+ghost use Rattle.differ.specs.Named.{AreCovered, IsCovered, is_call, is_named};
 
 use call_tables::Numbers;
 use profile::Rule;

@@ -10,12 +10,15 @@ use serde_json::Value;
 
 // What engines call a machine.
 fn machine_name(native: Arch) -> &'static str {
-    match native.scmp() {
-        "SCMP_ARCH_X86_64" => "amd64",
-        "SCMP_ARCH_X86" => "x86",
-        "SCMP_ARCH_X32" => "x32",
-        "SCMP_ARCH_AARCH64" => "arm64",
-        _ => "arm",
+    match native {
+        Arch::X86_64 | Arch::LinuxX86_64 => "amd64",
+        Arch::LinuxX86 => "x86",
+        Arch::LinuxX32 => "x32",
+        Arch::Aarch64 | Arch::LinuxAarch64 => "arm64",
+        Arch::LinuxArm => "arm",
+        Arch::LinuxRiscv64 => "riscv64",
+        Arch::LinuxPpc64le => "ppc64le",
+        Arch::LinuxLoongarch64 => "loong64",
     }
 }
 

@@ -6,7 +6,7 @@ use Rattle.std.specs.List.{Contains, slice_get}
 use Rattle.std.proofs.lemmas.List.{length-map}
 use Rattle.std.proofs.lemmas.Option.{same_Some}
 use Rattle.call_tables.specs.declared.arch.Arch.{Arch}
-use Rattle.call_tables.specs.declared.arch.Arch.TheVariants.{LinuxX86_64, LinuxX86, LinuxX32, LinuxAarch64, LinuxArm}
+use Rattle.call_tables.specs.declared.arch.Arch.TheVariants.{LinuxX86_64, LinuxX86, LinuxX32, LinuxAarch64, LinuxArm, LinuxRiscv64, LinuxPpc64le, LinuxLoongarch64}
 use Rattle.call_tables.specs.declared.arch.Family.TheVariants.{Whole}
 use Rattle.call_tables.specs.Arch.{AreOfFamily, family_of}
 use Rattle.profile.specs.declared.fault.BuildError.TheVariants as build
@@ -33,16 +33,19 @@ kept_short _ _ (keeps.again rules kept rule h has) =
 -- each machine with a number is of all of Linux
 whole : (n : ℕ) (a : Arch) → machine_with n ≡ Some a → family_of a ≡ Whole
 whole n a is =
-    at (n == 0xc000003e) (n == 0x40000003) (n == 0x4000003e) (n == 0xc00000b7) (n == 0x40000028) is where
-      at : (x64 x86 x32 arm64 arm : Bool)
-          → (if x64 then Some LinuxX86_64 else if x86 then Some LinuxX86 else if x32 then Some LinuxX32 else if arm64 then Some LinuxAarch64 else if arm then Some LinuxArm else None) ≡ Some a
+    at (n == 0xc000003e) (n == 0x40000003) (n == 0x4000003e) (n == 0xc00000b7) (n == 0x40000028) (n == 0xc00000f3) (n == 0xc0000015) (n == 0xc0000102) is where
+      at : (x64 x86 x32 arm64 arm riscv64 ppc64le loongarch64 : Bool)
+          → (if x64 then Some LinuxX86_64 else if x86 then Some LinuxX86 else if x32 then Some LinuxX32 else if arm64 then Some LinuxAarch64 else if arm then Some LinuxArm else if riscv64 then Some LinuxRiscv64 else if ppc64le then Some LinuxPpc64le else if loongarch64 then Some LinuxLoongarch64 else None) ≡ Some a
           → family_of a ≡ Whole
-      at true x86 x32 arm64 arm e = let s : LinuxX86_64 ≡ a = cc in cc
-      at false true x32 arm64 arm e = let s : LinuxX86 ≡ a = cc in cc
-      at false false true arm64 arm e = let s : LinuxX32 ≡ a = cc in cc
-      at false false false true arm e = let s : LinuxAarch64 ≡ a = cc in cc
-      at false false false false true e = let s : LinuxArm ≡ a = cc in cc
-      at false false false false false e = cc
+      at true x86 x32 arm64 arm riscv64 ppc64le loongarch64 e = let s : LinuxX86_64 ≡ a = cc in cc
+      at false true x32 arm64 arm riscv64 ppc64le loongarch64 e = let s : LinuxX86 ≡ a = cc in cc
+      at false false true arm64 arm riscv64 ppc64le loongarch64 e = let s : LinuxX32 ≡ a = cc in cc
+      at false false false true arm riscv64 ppc64le loongarch64 e = let s : LinuxAarch64 ≡ a = cc in cc
+      at false false false false true riscv64 ppc64le loongarch64 e = let s : LinuxArm ≡ a = cc in cc
+      at false false false false false true ppc64le loongarch64 e = let s : LinuxRiscv64 ≡ a = cc in cc
+      at false false false false false false true loongarch64 e = let s : LinuxPpc64le ≡ a = cc in cc
+      at false false false false false false false true e = let s : LinuxLoongarch64 ≡ a = cc in cc
+      at false false false false false false false false e = cc
 
 module _ (native : ℕ) (machines : List ℕ) (added : List AddedRule) (arch : Arch) (archs : List Arch) (rules : List Rule)
     (native_is : machine_with native ≡ Some arch) (same_archs : map (λ (a : Arch). Some a) archs ≡ map machine_with machines)

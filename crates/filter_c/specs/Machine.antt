@@ -1,7 +1,8 @@
 -- Machines by the numbers of seccomp_arch_add(3): the token of <linux/audit.h>, and for x32 one of its own.
 use Rattle.std.specs.Prelude.{ℕ, ◌≡◌, ◌==◌, Option, Some, None, if◌then◌else◌}
 use Rattle.call_tables.specs.declared.arch.Arch.{Arch}
-use Rattle.call_tables.specs.declared.arch.Arch.TheVariants.{LinuxX86_64, LinuxX86, LinuxX32, LinuxAarch64, LinuxArm}
+use Rattle.call_tables.specs.declared.arch.Arch.TheVariants.{LinuxX86_64, LinuxX86, LinuxX32, LinuxAarch64}
+use Rattle.call_tables.specs.declared.arch.Arch.TheVariants.{LinuxArm, LinuxRiscv64, LinuxPpc64le, LinuxLoongarch64}
 
 abbrev pub machine_with : ℕ → Option Arch
 machine_with n =
@@ -10,6 +11,9 @@ machine_with n =
     else if n == 0x4000003e then Some LinuxX32
     else if n == 0xc00000b7 then Some LinuxAarch64
     else if n == 0x40000028 then Some LinuxArm
+    else if n == 0xc00000f3 then Some LinuxRiscv64
+    else if n == 0xc0000015 then Some LinuxPpc64le
+    else if n == 0xc0000102 then Some LinuxLoongarch64
     else None
 
 -- the number is a machine's, and this holds of the machine

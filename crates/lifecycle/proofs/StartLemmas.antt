@@ -3,9 +3,9 @@ use Rattle.std.proofs.Common.{◌≡◌, ℕ, Bool, true, false, List, Option, S
 use Rattle.std.specs.Option.{option_map}
 use Rattle.std.specs.Cmp.Lexicographic.{nat_list_eq_equiv}
 use Rattle.call_tables.specs.declared.arch.Arch.{Arch}
-use Rattle.call_tables.specs.declared.arch.Arch.TheVariants.{X86_64, Aarch64, LinuxX86_64, LinuxX86, LinuxX32, LinuxAarch64, LinuxArm}
+use Rattle.call_tables.specs.declared.arch.Arch.TheVariants.{X86_64, Aarch64, LinuxX86_64, LinuxX86, LinuxX32, LinuxAarch64, LinuxArm, LinuxRiscv64, LinuxPpc64le, LinuxLoongarch64}
 use Rattle.call_tables.specs.Machines.{first_rows, second_rows, third_rows, fourth_rows, x86_64_table, aarch64_table}
-use Rattle.call_tables.specs.Machines.{linux_x86_64_table, linux_x86_table, linux_x32_table, linux_aarch64_table, linux_arm_table}
+use Rattle.call_tables.specs.Machines.{linux_x86_64_table, linux_x86_table, linux_x32_table, linux_aarch64_table, linux_arm_table, linux_riscv64_table, linux_ppc64le_table, linux_loongarch64_table}
 use Rattle.call_record.specs.declared.layout.Record.{Record}
 use Rattle.call_record.specs.declared.effect.Ends.{Ends}
 use Rattle.call_record.specs.declared.effect.Ends.TheVariants.{Nothing, Task, Group}
@@ -68,6 +68,18 @@ linux_arm-first : row_of LinuxArm (execve_of LinuxArm) ≡ Execve
 unfolding linux_arm_table first_rows second_rows third_rows fourth_rows
 linux_arm-first = refl
 
+linux_riscv64-first : row_of LinuxRiscv64 (execve_of LinuxRiscv64) ≡ Execve
+unfolding linux_riscv64_table first_rows second_rows third_rows fourth_rows
+linux_riscv64-first = refl
+
+linux_ppc64le-first : row_of LinuxPpc64le (execve_of LinuxPpc64le) ≡ Execve
+unfolding linux_ppc64le_table first_rows second_rows third_rows fourth_rows
+linux_ppc64le-first = refl
+
+linux_loongarch64-first : row_of LinuxLoongarch64 (execve_of LinuxLoongarch64) ≡ Execve
+unfolding linux_loongarch64_table first_rows second_rows third_rows fourth_rows
+linux_loongarch64-first = refl
+
 pub first_row : (native : Arch) → row_of native (execve_of native) ≡ Execve
 first_row X86_64 = x86_64-first
 first_row Aarch64 = aarch64-first
@@ -76,6 +88,9 @@ first_row LinuxX86 = linux_x86-first
 first_row LinuxX32 = linux_x32-first
 first_row LinuxAarch64 = linux_aarch64-first
 first_row LinuxArm = linux_arm-first
+first_row LinuxRiscv64 = linux_riscv64-first
+first_row LinuxPpc64le = linux_ppc64le-first
+first_row LinuxLoongarch64 = linux_loongarch64-first
 
 ends_by : (native : Arch) (first : Judge) (e : Ends) → let ps = ended_by_verdict e (first_task first) (admitted native first) in
     lives ps ≡ false → signalled 9 ps ≡ ps

@@ -6,11 +6,11 @@ use Rattle.std.proofs.lemmas.Bool.{and_parts, leb-true}
 use Rattle.std.proofs.lemmas.Bool.Decides.{eqb_tells}
 use Rattle.std.proofs.lemmas.List.Elements.{All-contains_itself, All-weaker}
 use Rattle.call_tables.specs.declared.arch.Arch.{Arch}
-use Rattle.call_tables.specs.declared.arch.Arch.TheVariants.{X86_64, Aarch64, LinuxX86_64, LinuxX86, LinuxX32, LinuxAarch64, LinuxArm}
+use Rattle.call_tables.specs.declared.arch.Arch.TheVariants.{X86_64, Aarch64, LinuxX86_64, LinuxX86, LinuxX32, LinuxAarch64, LinuxArm, LinuxRiscv64, LinuxPpc64le, LinuxLoongarch64}
 use Rattle.call_tables.specs.declared.numbers.Numbers.{Numbers}
 use Rattle.call_tables.specs.Arch.{table_of, token_of}
 use Rattle.call_tables.specs.Machines.{first_rows, second_rows, third_rows, fourth_rows, x86_64_table, aarch64_table}
-use Rattle.call_tables.specs.Machines.{linux_x86_64_table, linux_x86_table, linux_aarch64_table}
+use Rattle.call_tables.specs.Machines.{linux_x86_64_table, linux_x86_table, linux_aarch64_table, linux_riscv64_table, linux_ppc64le_table, linux_loongarch64_table}
 use Rattle.call_tables.specs.Numbers.{from_to, HasCall, IsOwn, IsWithin}
 use Rattle.call_tables.specs.Table.{Table, name_in}
 use Rattle.profile.specs.declared.rules.Rule.{Rule}
@@ -47,6 +47,18 @@ linux_aarch64_below : are_below above_all_numbers linux_aarch64_table ≡ true
 unfolding linux_aarch64_table first_rows second_rows third_rows fourth_rows
 linux_aarch64_below = refl
 
+linux_riscv64_below : are_below above_all_numbers linux_riscv64_table ≡ true
+unfolding linux_riscv64_table first_rows second_rows third_rows fourth_rows
+linux_riscv64_below = refl
+
+linux_ppc64le_below : are_below above_all_numbers linux_ppc64le_table ≡ true
+unfolding linux_ppc64le_table first_rows second_rows third_rows fourth_rows
+linux_ppc64le_below = refl
+
+linux_loongarch64_below : are_below above_all_numbers linux_loongarch64_table ≡ true
+unfolding linux_loongarch64_table first_rows second_rows third_rows fourth_rows
+linux_loongarch64_below = refl
+
 tables_below : (arch : Arch) → HasSmallNumbers arch → are_below above_all_numbers (table_of arch) ≡ true
 tables_below X86_64 small = x86_64_below
 tables_below Aarch64 small = aarch64_below
@@ -55,6 +67,9 @@ tables_below LinuxX86 small = linux_x86_below
 tables_below LinuxX32 small = absurd small
 tables_below LinuxAarch64 small = linux_aarch64_below
 tables_below LinuxArm small = absurd small
+tables_below LinuxRiscv64 small = linux_riscv64_below
+tables_below LinuxPpc64le small = linux_ppc64le_below
+tables_below LinuxLoongarch64 small = linux_loongarch64_below
 
 -- a rule of the tables is plain
 pub table_rule_is_plain : (rule : Rule) → IsTableRule rule → IsPlainRule rule
@@ -81,6 +96,9 @@ module _ (machines : List Arch) (nr : ℕ) (less : nr < above_all_numbers) where
   small_native beside LinuxX32 listed = x86_64_native (beside listed)
   small_native beside LinuxAarch64 listed = listed_own LinuxAarch64 listed (first_own 0xffffffff [] (omega (arith, less)))
   small_native beside LinuxArm listed = listed_own LinuxArm listed (first_own 0xffffffff [] (omega (arith, less)))
+  small_native beside LinuxRiscv64 listed = listed_own LinuxRiscv64 listed (first_own 0xffffffff [] (omega (arith, less)))
+  small_native beside LinuxPpc64le listed = listed_own LinuxPpc64le listed (first_own 0xffffffff [] (omega (arith, less)))
+  small_native beside LinuxLoongarch64 listed = listed_own LinuxLoongarch64 listed (first_own 0xffffffff [] (omega (arith, less)))
 
 pub beside_small : (machines : List Arch) → IsX32Beside machines → AreSmallNative machines
 beside_small machines beside =

@@ -280,9 +280,9 @@ impl<'a> Maker<'a> {
         }
     }
 
-    // Settles the rules of a spot's call, now that something was told of a word. Where it was known already, what is told settles
-    // only what it settles by itself, as for the compiler, which asks again since it has forgotten the rest.
-    fn settle(
+    /// Settles the rules of a spot's call, now that something was told of a word. Where it was known already, what is told settles
+    /// only what it settles by itself, as for the compiler, which asks again since it has forgotten the rest.
+    pub(crate) fn settle(
         &mut self,
         spot: &mut Spot,
         word: u8,

@@ -28,8 +28,8 @@ pub(crate) struct Maker<'a> {
     pub(crate) spots: Table<Spot>,
 }
 
-// The position that a jump leads to.
-fn after(pc: usize, skipped: u32) -> usize {
+/// The position that a jump leads to.
+pub(crate) fn after(pc: usize, skipped: u32) -> usize {
     pc.saturating_add(1).saturating_add(skipped as usize)
 }
 
@@ -91,8 +91,8 @@ impl<'a> Maker<'a> {
         Ok(())
     }
 
-    // What an instruction is, and what it does.
-    fn operation(&self, pc: usize) -> Option<(Insn, Operation)> {
+    /// What an instruction is, and what it does.
+    pub(crate) fn operation(&self, pc: usize) -> Option<(Insn, Operation)> {
         if pc < self.program.len() {
             let insn = self.program.get(pc);
             return Some((insn, insn.operation()?));
@@ -105,8 +105,8 @@ impl<'a> Maker<'a> {
         matches!(self.operation(pc), Some((_, Operation::ReturnK)))
     }
 
-    // Whether jumps lead from a position to a return or a load, where it does not matter what A holds.
-    fn is_new_start(&self, pc: usize) -> bool {
+    /// Whether jumps lead from a position to a return or a load, where it does not matter what A holds.
+    pub(crate) fn is_new_start(&self, pc: usize) -> bool {
         let mut pc = pc;
         for _ in 0..self.program.len() {
             match self.operation(pc) {
@@ -226,8 +226,8 @@ impl<'a> Maker<'a> {
         }
     }
 
-    // What the node of a spot does.
-    fn kind_of(&mut self, spot: &Spot, rooms: &mut Rooms) -> Result<Kind, OutlineError> {
+    /// What the node of a spot does.
+    pub(crate) fn kind_of(&mut self, spot: &Spot, rooms: &mut Rooms) -> Result<Kind, OutlineError> {
         if self.is_dead(spot.numbers) || self.is_dead(spot.arguments) {
             return Ok(Kind::Dead);
         }

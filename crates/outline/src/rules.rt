@@ -25,6 +25,11 @@ impl Rules {
         Ok(Rules { sorted })
     }
 
+    /// All of them, in order.
+    pub(crate) fn all(&self) -> &[Numbered] {
+        &self.sorted
+    }
+
     // In which turn the first rule of a machine comes whose number is not below one, or the first behind the machine's.
     fn turn(&self, token: u32, number: u32) -> usize {
         match self.sorted.binary_search(&(token, number, 0)) {

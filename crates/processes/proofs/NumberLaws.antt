@@ -6,12 +6,12 @@ use Rattle.std.proofs.lemmas.Slice.Eq.{bytes_eq-Decides}
 use Rattle.call_tables.specs.declared.arch.Arch.{Arch}
 use Rattle.call_tables.specs.Arch.{table_of}
 use Rattle.call_tables.specs.Machines.{first_rows, second_rows, third_rows, fourth_rows, x86_64_table, aarch64_table}
-use Rattle.call_tables.specs.Machines.{linux_x86_64_table, linux_x86_table, linux_x32_table, linux_aarch64_table, linux_arm_table}
+use Rattle.call_tables.specs.Machines.{linux_x86_64_table, linux_x86_table, linux_x32_table, linux_aarch64_table, linux_arm_table, linux_riscv64_table, linux_ppc64le_table, linux_loongarch64_table}
 use Rattle.call_tables.specs.Table.{IsInverse, Table, name_in, number_in}
 use Rattle.call_tables.proofs.ArchLaws.{table_of-inverse}
 use Rattle.processes.specs.Calls.{call_beside, named_calls}
 use Rattle.processes.specs.declared.calls.Call.{Call}
-use Rattle.processes.specs.declared.calls.TheConstants.{X86_64_NUMBERS, X86_NUMBERS, X32_NUMBERS, AARCH64_NUMBERS, ARM_NUMBERS}
+use Rattle.processes.specs.declared.calls.TheConstants.{X86_64_NUMBERS, X86_NUMBERS, X32_NUMBERS, AARCH64_NUMBERS, ARM_NUMBERS, PPC64LE_NUMBERS}
 use Rattle.processes.specs.inner.Numbers.{call_at, numbers_in, with_number}
 
 module _ (t : Table) (inverse : IsInverse t) (name : List ℕ) (nr : ℕ) (named : name_in t nr ≡ Some name) where
@@ -80,3 +80,15 @@ linux_aarch64_numbers = refl
 pub linux_arm_numbers : ARM_NUMBERS.now ≡ numbers_in linux_arm_table named_calls
 unfolding linux_arm_table first_rows second_rows third_rows fourth_rows
 linux_arm_numbers = refl
+
+pub linux_riscv64_numbers : AARCH64_NUMBERS.now ≡ numbers_in linux_riscv64_table named_calls
+unfolding linux_riscv64_table first_rows second_rows third_rows fourth_rows
+linux_riscv64_numbers = refl
+
+pub linux_ppc64le_numbers : PPC64LE_NUMBERS.now ≡ numbers_in linux_ppc64le_table named_calls
+unfolding linux_ppc64le_table first_rows second_rows third_rows fourth_rows
+linux_ppc64le_numbers = refl
+
+pub linux_loongarch64_numbers : AARCH64_NUMBERS.now ≡ numbers_in linux_loongarch64_table named_calls
+unfolding linux_loongarch64_table first_rows second_rows third_rows fourth_rows
+linux_loongarch64_numbers = refl

@@ -69,7 +69,7 @@ pub(crate) const X86_64_NUMBERS: &[(u32, Call)] = &[
     (435, Call::Lacking),
 ];
 
-/// The numbers of these calls on AArch64, which has neither fork nor vfork.
+/// The numbers of these calls on AArch64, riscv64 and loongarch64, which have neither fork nor vfork.
 pub(crate) const AARCH64_NUMBERS: &[(u32, Call)] = &[
     (220, Call::Clone),
     (221, Call::Execve),
@@ -135,6 +135,23 @@ pub(crate) const ARM_NUMBERS: &[(u32, Call)] = &[
     (435, Call::Lacking),
 ];
 
+/// The numbers of these calls on ppc64le.
+pub(crate) const PPC64LE_NUMBERS: &[(u32, Call)] = &[
+    (2, Call::Fork),
+    (189, Call::Fork),
+    (120, Call::Clone),
+    (11, Call::Execve),
+    (1, Call::Exit),
+    (234, Call::ExitGroup),
+    (37, Call::Kill),
+    (20, Call::GetPid),
+    (207, Call::GetTid),
+    (64, Call::GetParent),
+    (358, Call::Seccomp),
+    (171, Call::Prctl),
+    (435, Call::Lacking),
+];
+
 // The numbers of these calls on a machine.
 fn numbers_of(native: Arch) -> &'static [(u32, Call)]
     ensures { result.now ≡ numbers_in (table_of native) named_calls }
@@ -147,6 +164,9 @@ fn numbers_of(native: Arch) -> &'static [(u32, Call)]
         Arch::LinuxX86 => X86_NUMBERS,
         Arch::LinuxAarch64 => AARCH64_NUMBERS,
         Arch::LinuxArm => ARM_NUMBERS,
+        Arch::LinuxRiscv64 => AARCH64_NUMBERS,
+        Arch::LinuxPpc64le => PPC64LE_NUMBERS,
+        Arch::LinuxLoongarch64 => AARCH64_NUMBERS,
     }
 }
 

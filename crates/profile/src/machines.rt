@@ -2,7 +2,7 @@
 ghost use Rattle.std.specs.Prelude.{◌≡◌, ◌↔◌, IsTrue, IfSome, IfNone, All, Any, Contains};
 ghost use Rattle.std.specs.List.{list_any};
 ghost use Rattle.call_tables.specs.Arch.{family_of, same_arch, same_family, AreOfFamily};
-ghost use Rattle.call_tables.specs.Numbers.{HasCall, foreign_numbers, shares_token};
+ghost use Rattle.call_tables.specs.Numbers.{HasCall, foreign_numbers, has_call, shares_token};
 ghost use Rattle.profile.specs.Machines.{in_order};
 ghost use Rattle.profile.specs.Build.{AreListed, IsFirstForeign};
 
@@ -11,7 +11,7 @@ use arrayvec::ArrayVec;
 use call_tables::{Arch, Family, Numbers};
 
 /// How many machines a family has at most.
-pub const MACHINES: usize = 5;
+pub const MACHINES: usize = 8;
 
 /// The listed machines, of one family, each once, x86-64 first.
 pub fn in_order(family: Family, archs: &[Arch]) -> ArrayVec<Arch, MACHINES>
@@ -31,10 +31,24 @@ pub fn in_order(family: Family, archs: &[Arch]) -> ArrayVec<Arch, MACHINES>
 pub fn are_for(machines: &[Arch], token: u32, number: u32) -> bool
     ensures { IsTrue result ↔ Any (HasCall token number) machines.now }
 {
+    is_in(machines, token, number)
+}
+
+// The same as a test.
+fn is_in(machines: &[Arch], token: u32, number: u32) -> bool
+    ensures { result ≡ list_any (has_call token number) machines.now }
+{
     machines.iter().any(|arch| has_call(*arch, token, number))
 }
 
 fn has_call(arch: Arch, token: u32, number: u32) -> bool
+    ensures { result ≡ has_call token number arch }
+{
+    is_of(arch, token, number)
+}
+
+// Whether a call is the machine's.
+fn is_of(arch: Arch, token: u32, number: u32) -> bool
     ensures { IsTrue result ↔ HasCall token number arch }
 {
     if arch.token() != token {

@@ -39,8 +39,10 @@ pub data RootBreaks (family : Family) (t : Data) : Fault → Type 0 where
   version_other : (v : List ℕ) → member text key.oci_version t ≡ holds v → ¬ Contains (editions family) v → RootBreaks family t version
   linux_missing : IsSome (object t) → member object key.linux t ≡ missing → RootBreaks family t no_seccomp
   linux_other : member object key.linux t ≡ other_type → RootBreaks family t wrong_type
-  seccomp_missing : (l : Data) → member object key.linux t ≡ holds l → member object key.seccomp l ≡ missing → RootBreaks family t no_seccomp
-  seccomp_other : (l : Data) → member object key.linux t ≡ holds l → member object key.seccomp l ≡ other_type → RootBreaks family t wrong_type
+  seccomp_missing : (l : Data) → member object key.linux t ≡ holds l → member object key.seccomp l ≡ missing
+      → RootBreaks family t no_seccomp
+  seccomp_other : (l : Data) → member object key.linux t ≡ holds l → member object key.seccomp l ≡ other_type
+      → RootBreaks family t wrong_type
 
 -- the action under a key
 pub data ActionBreaks (family : Family) (k : List ℕ) (d : Data) : Fault → Type 0 where

@@ -24,6 +24,7 @@ mod question;
 mod ranges;
 mod reached;
 mod remaining;
+mod rows;
 mod runs;
 mod search;
 mod shared;

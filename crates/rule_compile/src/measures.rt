@@ -63,8 +63,28 @@ pub(crate) fn room_for(rules: &[Open], fewest: usize) -> usize {
     looked_at.max(fewest.saturating_mul(2)).min(MOST)
 }
 
-/// The place of the rule that begins nearest behind the middle, or else of the last one.
-pub(crate) fn middle(rules: &[Open]) -> Option<usize>
+// Whether each rule asks whether the same bits are a number.
+fn are_list(rules: &[Open]) -> bool {
+    let Some(first) = rules.first() else {
+        return false;
+    };
+    let subject = first.question.subject;
+    rules.iter().all(|open| open.begins && open.question.is_equality_of(subject))
+}
+
+/// Where rules are parted: at `middle`. A list of numbers is asked for at once, which never takes more ranges.
+pub(crate) fn parting(rules: &[Open]) -> Option<usize>
+    ensures within { IfSome result (λ place. (1 ≤ place) × (place < length rules.now)) }
+    ensures begins { IfSome result (λ place. begins_here (drop place rules.now) ≡ true) }
+{
+    if are_list(rules) {
+        return None;
+    }
+    middle(rules)
+}
+
+// The place of the rule that begins nearest behind the middle, or else of the last one.
+fn middle(rules: &[Open]) -> Option<usize>
     ensures within { IfSome result (λ place. (1 ≤ place) × (place < length rules.now)) }
     ensures begins { IfSome result (λ place. begins_here (drop place rules.now) ≡ true) }
 {

@@ -9,7 +9,7 @@ use crate::asked::{Open, Placed, Rest, questions_of};
 use crate::blocks::Blocks;
 use crate::index::key_of;
 use crate::known::{Known, Span};
-use crate::measures::{all_have, middle, room_for, weight_of};
+use crate::measures::{all_have, parting, room_for, weight_of};
 use crate::outline::{Asked, Call, Part};
 use crate::ranges::Leaf;
 use call_record::Word;
@@ -132,7 +132,7 @@ impl Blocks {
         if all_have(rules, other) {
             return Ok(*other);
         }
-        let Some(place) = middle(rules) else {
+        let Some(place) = parting(rules) else {
             let leaf = self.add_rule(alloc, rules, other)?;
             add_span(spans, start, rules.len(), &leaf)?;
             return Ok(leaf);

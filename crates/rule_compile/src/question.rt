@@ -162,6 +162,11 @@ impl Question {
         self.subject.mask == u32::MAX && self.low.is_none()
     }
 
+    /// Whether it asks whether these bits are a number.
+    pub(crate) fn is_equality_of(&self, subject: Subject) -> bool {
+        self.wanted && self.comparison == Comparison::Equal && self.subject == subject
+    }
+
     /// The number behind the one that is asked for, where the reply may be another from it on.
     pub(crate) fn next_turn(&self) -> Option<u32>
         ensures some { IfSome result (λ next. next ≡ self.now.number + 1) }

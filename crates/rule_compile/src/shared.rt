@@ -132,6 +132,7 @@ pub(crate) fn write_search(
     alloc: Global,
     written: &[Written],
     ranges: &[Range],
+    in_rows: bool,
 ) -> Result<Option<Written>, AllocError>
     requires placed { AreIn code.old written.now }
     ensures grows { OnOk result (Grows code.old code.new) }
@@ -140,7 +141,7 @@ pub(crate) fn write_search(
     if ranges.is_empty() || !are_before(ranges, written.len()) {
         return Ok(None);
     }
-    let plan = levels_of(alloc, ranges, written)?;
+    let plan = levels_of(alloc, ranges, written, in_rows)?;
     let target = search(code, written, ranges, &plan.levels, DEPTH, NOTHING)?;
     Ok(Some(Written {
         target,
@@ -168,7 +169,7 @@ fn share(
         return Ok(());
     }
     let common = &one.ranges[run.one..end];
-    if let Some(Written { target, height }) = write_search(code, alloc, written, common)? {
+    if let Some(Written { target, height }) = write_search(code, alloc, written, common, false)? {
         let leaf = keep(code, written, target, height)?;
         one.ranges = replaced(alloc, &one.ranges, run.one, end, &leaf)?;
         other.ranges = replaced(alloc, &other.ranges, run.other, other_end, &leaf)?;
@@ -212,7 +213,7 @@ fn write_numbers(
     requires placed { AreIn code.old written.old.items }
     ensures placed { OnOk result (AreIn code.new written.new.items) }
 {
-    let found = write_search(code, alloc, written, &numbers.ranges)?;
+    let found = write_search(code, alloc, written, &numbers.ranges, false)?;
     let Some(
         Written {
             target: Target::Place(place),

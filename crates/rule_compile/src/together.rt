@@ -35,7 +35,7 @@ fn write_word(
     requires offset { IsOffset word }
     ensures placed { OnOk result (AreIn code.new written.new.items) }
 {
-    match write_search(code, alloc, written, ranges)? {
+    match write_search(code, alloc, written, ranges, true)? {
         Some(
             Written {
                 target: Target::Place(place),

@@ -8,11 +8,11 @@ use Rattle.std.proofs.lemmas.Bool.{and_parts}
 use Rattle.std.proofs.lemmas.Option.{same_Some}
 use Rattle.std.proofs.lemmas.Slice.Eq.{bytes_eq-Decides}
 use Rattle.call_tables.specs.declared.arch.Arch.{Arch}
-use Rattle.call_tables.specs.declared.arch.Arch.TheVariants.{X86_64, Aarch64, LinuxX86_64, LinuxX86, LinuxX32, LinuxAarch64, LinuxArm}
+use Rattle.call_tables.specs.declared.arch.Arch.TheVariants.{X86_64, Aarch64, LinuxX86_64, LinuxX86, LinuxX32, LinuxAarch64, LinuxArm, LinuxRiscv64, LinuxPpc64le, LinuxLoongarch64}
 use Rattle.call_tables.specs.declared.arch.Family.{Family}
 use Rattle.call_tables.specs.declared.arch.Family.TheVariants.{Chosen, Whole}
 use Rattle.call_tables.specs.Machines.{first_rows, second_rows, third_rows, fourth_rows, x86_64_table, aarch64_table}
-use Rattle.call_tables.specs.Machines.{linux_x86_64_table, linux_x86_table, linux_x32_table, linux_aarch64_table, linux_arm_table}
+use Rattle.call_tables.specs.Machines.{linux_x86_64_table, linux_x86_table, linux_x32_table, linux_aarch64_table, linux_arm_table, linux_riscv64_table, linux_ppc64le_table, linux_loongarch64_table}
 use Rattle.call_tables.specs.Arch.{table_of, machine_name, family_of, same_family, machine_called, native_called}
 use Rattle.call_tables.specs.Table.{Table, number_in}
 use Rattle.texts.specs.Splits.{split_at}
@@ -65,6 +65,18 @@ linux_arm-plain : list_all is_plain linux_arm_table ≡ true
 unfolding linux_arm_table first_rows second_rows third_rows fourth_rows
 linux_arm-plain = refl
 
+linux_riscv64-plain : list_all is_plain linux_riscv64_table ≡ true
+unfolding linux_riscv64_table first_rows second_rows third_rows fourth_rows
+linux_riscv64-plain = refl
+
+linux_ppc64le-plain : list_all is_plain linux_ppc64le_table ≡ true
+unfolding linux_ppc64le_table first_rows second_rows third_rows fourth_rows
+linux_ppc64le-plain = refl
+
+linux_loongarch64-plain : list_all is_plain linux_loongarch64_table ≡ true
+unfolding linux_loongarch64_table first_rows second_rows third_rows fourth_rows
+linux_loongarch64-plain = refl
+
 table-plain : (arch : Arch) → list_all is_plain (table_of arch) ≡ true
 table-plain X86_64 = x86_64-plain
 table-plain Aarch64 = aarch64-plain
@@ -73,6 +85,9 @@ table-plain LinuxX86 = linux_x86-plain
 table-plain LinuxX32 = linux_x32-plain
 table-plain LinuxAarch64 = linux_aarch64-plain
 table-plain LinuxArm = linux_arm-plain
+table-plain LinuxRiscv64 = linux_riscv64-plain
+table-plain LinuxPpc64le = linux_ppc64le-plain
+table-plain LinuxLoongarch64 = linux_loongarch64-plain
 
 foreign_is_not_plain : (arch : Arch) (ds : List ℕ) → lacks colon (machine_name arch ++ colon ∷ ds) ≡ true → ⊥
 foreign_is_not_plain X86_64 ds h = cc
@@ -82,6 +97,9 @@ foreign_is_not_plain LinuxX86 ds h = cc
 foreign_is_not_plain LinuxX32 ds h = cc
 foreign_is_not_plain LinuxAarch64 ds h = cc
 foreign_is_not_plain LinuxArm ds h = cc
+foreign_is_not_plain LinuxRiscv64 ds h = cc
+foreign_is_not_plain LinuxPpc64le ds h = cc
+foreign_is_not_plain LinuxLoongarch64 ds h = cc
 
 unnamed : (native arch : Arch) (text : List ℕ) (nr : ℕ) → IsForeign (family_of native) text arch nr → number_in (table_of native) text ≡ None
 unnamed native arch text nr f = by_name (number_in (table_of native) text) refl where
@@ -115,7 +133,7 @@ native_called-some : (name : List ℕ) (arch : Arch) → native_called name ≡ 
 unfolding native_called
 native_called-some name arch h =
     called_some X86_64 arch name _ (called_some Aarch64 arch name _ (called_some LinuxX86_64 arch name _
-    (called_some LinuxAarch64 arch name None (λ e. absurd (cc))))) h
+    (called_some LinuxAarch64 arch name _ (called_some LinuxRiscv64 arch name _ (called_some LinuxPpc64le arch name _ (called_some LinuxLoongarch64 arch name None (λ e. absurd (cc)))))))) h
 
 machine_called-some : (name : List ℕ) (arch : Arch) → machine_called name ≡ Some arch → name ≡ machine_name arch
 unfolding machine_called
@@ -150,6 +168,9 @@ foreign_at-spelled LinuxX86 ds = refl
 foreign_at-spelled LinuxX32 ds = refl
 foreign_at-spelled LinuxAarch64 ds = refl
 foreign_at-spelled LinuxArm ds = refl
+foreign_at-spelled LinuxRiscv64 ds = refl
+foreign_at-spelled LinuxPpc64le ds = refl
+foreign_at-spelled LinuxLoongarch64 ds = refl
 
 foreign_at-is : (family : Family) (text : List ℕ) (arch : Arch) (nr : ℕ) → IsForeign family text arch nr
     → foreign_at family text ≡ Some (arch, nr)

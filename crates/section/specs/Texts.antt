@@ -12,7 +12,8 @@ use Rattle.section.specs.declared.kinds.Kind.TheVariants.{Bundle, Section, Engin
 
 -- what the text of the bytes is, by its value, or by how it begins if it is no JSON
 abbrev pub IsKind : List ℕ → Kind → Type 0
-IsKind bytes kind = ((t : Data) × IsText bytes t × (kind ≡ kind_of t)) ⊎ (((t : Data) → ¬ IsText bytes t) × (kind ≡ kind_of_other_text bytes))
+IsKind bytes kind =
+    ((t : Data) × IsText bytes t × (kind ≡ kind_of t)) ⊎ (((t : Data) → ¬ IsText bytes t) × (kind ≡ kind_of_other_text bytes))
 
 -- the bundle in which a section stands
 abbrev pub in_bundle : List ℕ → List ℕ

@@ -45,9 +45,19 @@ pub(crate) fn id_named<'a>(request: &Request<'a>) -> &'a str
 fn record_of(arch: Arch, nr: u32, args: [u64; 6]) -> Record
     ensures { IsRecordOf arch nr args result }
 {
+    record_with(arch.token(), nr, args)
+}
+
+// The record of a call with a token.
+fn record_with(token: u32, nr: u32, args: [u64; 6]) -> Record
+    ensures number { result.nr ≡ nr }
+    ensures token { result.arch ≡ token }
+    ensures pointer { result.ip ≡ 0 }
+    ensures arguments { result.args ≡ args }
+{
     Record {
         nr,
-        arch: arch.token(),
+        arch: token,
         ip: 0,
         args,
     }

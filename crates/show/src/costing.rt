@@ -46,7 +46,10 @@ fn machines_of(native: Arch) -> &'static [Arch] {
         Arch::LinuxAarch64 => &[Arch::LinuxAarch64, Arch::LinuxArm],
         Arch::X86_64 => &[Arch::X86_64],
         Arch::Aarch64 => &[Arch::Aarch64],
-        _ => &[],
+        Arch::LinuxRiscv64 => &[Arch::LinuxRiscv64],
+        Arch::LinuxPpc64le => &[Arch::LinuxPpc64le],
+        Arch::LinuxLoongarch64 => &[Arch::LinuxLoongarch64],
+        Arch::LinuxX86 | Arch::LinuxX32 | Arch::LinuxArm => &[],
     }
 }
 

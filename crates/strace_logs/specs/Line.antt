@@ -8,7 +8,8 @@ use Rattle.texts.specs.Lines.{space}
 use Rattle.texts.specs.Numbers.{decimal_at, hexadecimal_at}
 use Rattle.texts.specs.Splits.{behind, split_at}
 use Rattle.call_tables.specs.declared.arch.Arch.{Arch}
-use Rattle.call_tables.specs.declared.arch.Arch.TheVariants.{X86_64, Aarch64, LinuxX86_64, LinuxX86, LinuxX32, LinuxAarch64, LinuxArm}
+use Rattle.call_tables.specs.declared.arch.Arch.TheVariants.{X86_64, Aarch64, LinuxX86_64, LinuxX86, LinuxX32}
+use Rattle.call_tables.specs.declared.arch.Arch.TheVariants.{LinuxAarch64, LinuxArm, LinuxRiscv64, LinuxPpc64le, LinuxLoongarch64}
 use Rattle.call_tables.specs.Arch.{table_of, token_of}
 use Rattle.call_tables.specs.Table.{number_in}
 use Rattle.call_record.specs.Words.{words_from}
@@ -28,6 +29,9 @@ machines_run LinuxX86 = LinuxX86 ∷ []
 machines_run LinuxX32 = LinuxX32 ∷ []
 machines_run LinuxAarch64 = LinuxAarch64 ∷ LinuxArm ∷ []
 machines_run LinuxArm = LinuxArm ∷ []
+machines_run LinuxRiscv64 = LinuxRiscv64 ∷ []
+machines_run LinuxPpc64le = LinuxPpc64le ∷ []
+machines_run LinuxLoongarch64 = LinuxLoongarch64 ∷ []
 
 abbrev pub is_number : Option ℕ → ℕ → Bool
 is_number None nr = false

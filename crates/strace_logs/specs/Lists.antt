@@ -4,7 +4,8 @@ use Rattle.std.specs.List.{list_any}
 use Rattle.std.specs.Str.{bytes_eq}
 use Rattle.strace_logs.specs.declared.lists.Runtime.{Runtime}
 use Rattle.strace_logs.specs.declared.lists.Runtime.TheVariants.{Crun, Runc, Bubblewrap, Docker, Podman}
-use Rattle.strace_logs.specs.declared.lists.TheConstants.{NEEDED, FALLBACKS, THREADS, OF_CRUN, OF_RUNC, OF_BUBBLEWRAP, OF_TINI, OF_CATATONIT}
+use Rattle.strace_logs.specs.declared.lists.TheConstants.{NEEDED, FALLBACKS, THREADS, OF_CRUN}
+use Rattle.strace_logs.specs.declared.lists.TheConstants.{OF_RUNC, OF_BUBBLEWRAP, OF_TINI, OF_CATATONIT}
 
 -- a call that a program needs and no log shows
 unfoldable pub is_needed : List ℕ → Bool

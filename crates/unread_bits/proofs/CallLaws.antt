@@ -8,7 +8,7 @@ use Rattle.call_record.specs.Words.{word}
 use Rattle.profile.specs.Policy.{Policy, IsClear}
 use Rattle.differ.specs.OnCall.{IsOfCall, is_for}
 use Rattle.differ.specs.declared.named.Call.{Call}
-use Rattle.differ.specs.inner.Named.{is_call, is_named}
+use Rattle.differ.specs.Named.{is_call, is_named}
 use Rattle.unread_bits.specs.Crowded.{AreCrowded}
 use Rattle.unread_bits.specs.Past.{AreTold, GetsPast, IsAnswered, IsPastOf, NothingGetsPast, is_past_of}
 use Rattle.unread_bits.specs.declared.calls.AllPast.{AllPast}

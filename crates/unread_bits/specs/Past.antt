@@ -6,7 +6,7 @@ use Rattle.call_record.specs.Verdict.{Through}
 use Rattle.call_record.specs.Words.{IsRecord}
 use Rattle.profile.specs.Policy.{Policy, Says}
 use Rattle.differ.specs.OnCall.{IsOfCall, is_for}
-use Rattle.differ.specs.inner.Named.{is_named}
+use Rattle.differ.specs.Named.{is_named}
 use Rattle.widths.specs.Alike.{Alike, IsCleared}
 use Rattle.unread_bits.specs.Crowded.{AreCrowded}
 use Rattle.unread_bits.specs.declared.past.Past.{Past}

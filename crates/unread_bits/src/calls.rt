@@ -2,7 +2,7 @@
 ghost use Rattle.std.specs.Prelude.{◌≡◌, ◌++◌, ◌∷◌, [], ℕ, true, IfOk};
 ghost use Rattle.unread_bits.specs.Past.{AreAllPast, AreTold, IsAnswered};
 ghost use Rattle.unread_bits.specs.inner.Extended.{Extends};
-ghost use Rattle.differ.specs.inner.Named.{is_named};
+ghost use Rattle.differ.specs.Named.{is_named};
 
 use crate::named::calls_of;
 use crate::on_call::past_on;

@@ -2,7 +2,7 @@
 ghost use Rattle.std.specs.Prelude.{◌≡◌, ℕ, true, IfOk};
 ghost use Rattle.std.specs.List.{list_any};
 ghost use Rattle.differ.specs.OnCall.{is_for};
-ghost use Rattle.differ.specs.inner.Named.{is_call, is_named};
+ghost use Rattle.differ.specs.Named.{is_call, is_named};
 
 use differ::Call;
 use profile::Rule;

@@ -1,8 +1,9 @@
 -- The tables of each machine (Linux 6.18, SYSCALL_DEFINE and COMPAT_SYSCALL_DEFINE). x32 enters the calls of x86-64, but for
--- those with entries of its own; AArch64 takes the arguments of clone in another order.
+-- those with entries of its own; AArch64, riscv64 and ppc64le take the arguments of clone in another order.
 use Rattle.std.specs.Prelude.{List, [], ◌∷◌, map}
 use Rattle.call_tables.specs.declared.arch.Arch.{Arch}
-use Rattle.call_tables.specs.declared.arch.Arch.TheVariants.{X86_64, Aarch64, LinuxX86_64, LinuxX86, LinuxX32, LinuxAarch64, LinuxArm}
+use Rattle.call_tables.specs.declared.arch.Arch.TheVariants.{X86_64, Aarch64, LinuxX86_64, LinuxX86, LinuxX32}
+use Rattle.call_tables.specs.declared.arch.Arch.TheVariants.{LinuxAarch64, LinuxArm, LinuxRiscv64, LinuxPpc64le, LinuxLoongarch64}
 use Rattle.widths.specs.declared.linux_arguments.TheConstants.{FIRST_CALLS, SECOND_CALLS, THIRD_CALLS, FOURTH_CALLS}
 use Rattle.widths.specs.declared.linux_arguments.TheConstants.{X32_CALLS, X86_CALLS, AARCH64_CALLS}
 use Rattle.widths.specs.Rows.{Rows}
@@ -52,3 +53,6 @@ tables_of LinuxX32 = on_x32
 tables_of LinuxX86 = x86_rows ∷ []
 tables_of LinuxAarch64 = on_aarch64
 tables_of LinuxArm = []
+tables_of LinuxRiscv64 = on_aarch64
+tables_of LinuxPpc64le = on_aarch64
+tables_of LinuxLoongarch64 = shared

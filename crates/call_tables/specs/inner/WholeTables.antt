@@ -1,7 +1,8 @@
 -- The rows of Linux stand in order, and no machine has a number twice: computed over them.
 use Rattle.std.proofs.Common.{◌≡◌, true, refl}
 use Rattle.call_tables.specs.Machines.{first_rows, second_rows, third_rows, fourth_rows, linux_rows}
-use Rattle.call_tables.specs.Machines.{linux_x86_64_table, linux_x86_table, linux_x32_table, linux_aarch64_table, linux_arm_table}
+use Rattle.call_tables.specs.Machines.{linux_x86_64_table, linux_x86_table, linux_x32_table, linux_aarch64_table}
+use Rattle.call_tables.specs.Machines.{linux_arm_table, linux_riscv64_table, linux_ppc64le_table, linux_loongarch64_table}
 use Rattle.call_tables.specs.Table.{is_one_to_one}
 use Rattle.call_tables.specs.inner.Order.{Ascends, are_sorted}
 use Rattle.call_tables.specs.inner.OrderLaws.{ascends, one_to_one}
@@ -32,3 +33,15 @@ linux_aarch64-one_to_one = one_to_one 3 linux_rows linux-ascends refl
 pub linux_arm-one_to_one : is_one_to_one linux_arm_table ≡ true
 unfolding linux_arm_table first_rows second_rows third_rows fourth_rows
 linux_arm-one_to_one = one_to_one 4 linux_rows linux-ascends refl
+
+pub linux_riscv64-one_to_one : is_one_to_one linux_riscv64_table ≡ true
+unfolding linux_riscv64_table first_rows second_rows third_rows fourth_rows
+linux_riscv64-one_to_one = one_to_one 5 linux_rows linux-ascends refl
+
+pub linux_ppc64le-one_to_one : is_one_to_one linux_ppc64le_table ≡ true
+unfolding linux_ppc64le_table first_rows second_rows third_rows fourth_rows
+linux_ppc64le-one_to_one = one_to_one 6 linux_rows linux-ascends refl
+
+pub linux_loongarch64-one_to_one : is_one_to_one linux_loongarch64_table ≡ true
+unfolding linux_loongarch64_table first_rows second_rows third_rows fourth_rows
+linux_loongarch64-one_to_one = one_to_one 7 linux_rows linux-ascends refl

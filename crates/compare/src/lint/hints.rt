@@ -62,7 +62,7 @@ pub fn hint(alloc: Global, native: Arch, bundle: &[u8]) -> Result<bool, AllocErr
     // If so, some call does.
     ensures hinted { IfOk result (λ told. told ≡ true → SomeGetPast native bundle.now) }
 
-    // If not, the bundle is longer, it is refused, nothing gets past it, or of some call it is not decided.
+    // If not, the bundle is longer, it is refused, or nothing gets past it, as far as its calls are decided.
     ensures unhinted { IfOk result (λ told. told ≡ false → IsUnhinted native bundle.now) }
 {
     if bundle.len() > MOST_BYTES {

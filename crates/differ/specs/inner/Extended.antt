@@ -3,7 +3,7 @@ use Rattle.std.specs.Prelude.{◌≡◌, ℕ, true}
 use Rattle.differ.specs.Differences.{has_token, is_told, is_told_with}
 use Rattle.differ.specs.declared.gathered.Differences.{Differences}
 use Rattle.differ.specs.declared.direction.Direction.{Direction}
-use Rattle.differ.specs.inner.Named.{is_named}
+use Rattle.differ.specs.Named.{is_named}
 
 pub record Extends (old new : Differences) : Type 0 where
   pub told : (token nr : ℕ) (direction : Direction) → is_told old.found.items token nr direction ≡ true

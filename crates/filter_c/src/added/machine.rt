@@ -16,6 +16,9 @@ pub fn machine_with(number: u32) -> Option<Arch>
         0x4000_003e => Some(Arch::LinuxX32),
         0xc000_00b7 => Some(Arch::LinuxAarch64),
         0x4000_0028 => Some(Arch::LinuxArm),
+        0xc000_00f3 => Some(Arch::LinuxRiscv64),
+        0xc000_0015 => Some(Arch::LinuxPpc64le),
+        0xc000_0102 => Some(Arch::LinuxLoongarch64),
         _ => None,
     }
 }

@@ -2,7 +2,8 @@
 use Rattle.std.specs.Prelude.{◌≡◌, ◌≤◌, ◌&&◌, ℕ, nat_lt, Bool, true, List, [], ◌∷◌, Some}
 use Rattle.std.specs.List.{All, Contains}
 use Rattle.call_tables.specs.declared.arch.Arch.{Arch}
-use Rattle.call_tables.specs.declared.arch.Arch.TheVariants.{X86_64, Aarch64, LinuxX86_64, LinuxX86, LinuxX32, LinuxAarch64, LinuxArm}
+use Rattle.call_tables.specs.declared.arch.Arch.TheVariants.{X86_64, Aarch64, LinuxX86_64, LinuxX86, LinuxX32}
+use Rattle.call_tables.specs.declared.arch.Arch.TheVariants.{LinuxAarch64, LinuxArm, LinuxRiscv64, LinuxPpc64le, LinuxLoongarch64}
 use Rattle.call_tables.specs.Arch.{table_of}
 use Rattle.call_tables.specs.Table.{Table, name_in}
 use Rattle.profile.specs.declared.rules.Rule.{Rule}
@@ -18,6 +19,9 @@ HasSmallNumbers LinuxX86 = Unit {0}
 HasSmallNumbers LinuxX32 = ⊥
 HasSmallNumbers LinuxAarch64 = Unit {0}
 HasSmallNumbers LinuxArm = ⊥
+HasSmallNumbers LinuxRiscv64 = Unit {0}
+HasSmallNumbers LinuxPpc64le = Unit {0}
+HasSmallNumbers LinuxLoongarch64 = Unit {0}
 
 -- the rule has no condition, and its number stands in the table of its machine, of which each number is small
 abbrev pub IsTableRule : Rule → Type 0

@@ -11,7 +11,7 @@ ghost use Rattle.maker.specs.evidence.Conviction.{JudgesTelling, ShapeLacksMemor
 
 use crate::evidence::hand::Hand;
 use crate::evidence::maker::are_plain;
-use crate::evidence::own::{by_compilers_outline, by_same_outline};
+use crate::evidence::own::{by_compilers_outline, by_its_order, by_same_outline};
 use bpf_interp::verdict;
 use call_record::{Record, Word};
 use cert_check::{CheckError, check_accepted, valid_is_right};
@@ -130,6 +130,23 @@ fn checked(
     }
 }
 
+// The evidence where the outline of the compiler's filter gives none: by the order in which the filter itself asks for rules.
+fn in_its_order(
+    alloc: Global,
+    profile: &Profile,
+    program: &Accepted<'_>,
+) -> Result<Evidence, CertifyError>
+    ensures evidence { IfOk result (IsEvidence profile.now (accepted_insns program.now)) }
+    ensures size { IfErr result IsOfSize }
+{
+    let hand = by_its_order(alloc, profile, *program);
+    match checked(alloc, profile, program, hand) {
+        Ok(Some(bytes)) => Ok(Evidence::Certificate(bytes)),
+        Ok(None) => searched(alloc, profile, program, CertifyError::TooLarge),
+        Err(error) => Err(error),
+    }
+}
+
 // The evidence where the paths are too many to follow each: long lists of numbers, as libseccomp's for x86-64 and x32, are followed by
 // the outline of the compiler's filter.
 fn of_many_paths(
@@ -144,7 +161,7 @@ fn of_many_paths(
     let hand = by_compilers_outline(alloc, profile, *program, own);
     match checked(alloc, profile, program, hand) {
         Ok(Some(bytes)) => Ok(Evidence::Certificate(bytes)),
-        Ok(None) => searched(alloc, profile, program, CertifyError::TooLarge),
+        Ok(None) => in_its_order(alloc, profile, program),
         Err(error) => Err(error),
     }
 }
@@ -225,7 +242,8 @@ fn valid_shows(profile: &Profile, program: &Accepted<'_>)
 /// A filter that the compiler makes of a profile with conditions is certified by the compiler's outline. Of any other filter each path is
 /// followed once, until it is certified, or a record is met on which it is wrong. Then a record beside the rules is told in the place of
 /// that one, if there is one, and a call of the tables before all others. Where the paths are too many, the certificate by the outline of
-/// the compiler's own filter is tried. Then, or where some comparison does not tell all that it asks, a search may still find a record.
+/// the compiler's own filter is tried, and the one by the order in which the filter asks. Then, or where some comparison does not tell all
+/// that it asks, a search may still find a record.
 #[tactic(auto, using(crate::proofs::RightLaws::judged_of_telling, crate::proofs::RightLaws::shows_right))]
 pub fn judge(
     alloc: Global,

@@ -8,7 +8,7 @@ use crate::evidence::hand::Hand;
 use bpf_insn::{Insn, MAX_INSNS, encode_into};
 use certify::CertifyError;
 use kernel_check::Accepted;
-use outline::{OutlineError, are_too_many, outlined};
+use outline::{AskedCall, OutlineError, are_too_many, asked_by, outlined};
 use profile::Profile;
 use rule_compile::{Known, Outline, Planned, Shorter, plan, shorten};
 use std::alloc::{AllocError, Global};
@@ -26,6 +26,21 @@ fn hand_of(made: Result<Vec<u8>, OutlineError>) -> Result<Hand, CertifyError>
     }
 }
 
+// The certificate of a filter that asks for the rules of calls in these parts. If a call has too many rules, none is written.
+fn by_calls(
+    alloc: Global,
+    profile: &Profile,
+    program: Accepted<'_>,
+    calls: &[AskedCall],
+) -> Result<Hand, CertifyError>
+    ensures { IfErr result (λ e. e ≡ OutOfMemory) }
+{
+    if are_too_many(calls) {
+        return Ok(Hand::Nothing);
+    }
+    hand_of(outlined(alloc, profile, &program.program(), calls))
+}
+
 /// The certificate of a filter that is written from an outline. If a call has too many rules, none is.
 pub(crate) fn by_outline(
     alloc: Global,
@@ -38,10 +53,7 @@ pub(crate) fn by_outline(
     let Ok(calls) = asked_calls(alloc, outline) else {
         return Err(CertifyError::OutOfMemory);
     };
-    if are_too_many(&calls) {
-        return Ok(Hand::Nothing);
-    }
-    hand_of(outlined(alloc, profile, &program.program(), &calls))
+    by_calls(alloc, profile, program, &calls)
 }
 
 /// A filter that is shorter than the compiler's own, if one is found. None is looked for if the plan is twice as long as a filter may be.
@@ -121,5 +133,21 @@ pub(crate) fn by_compilers_outline(
     match plan(alloc, profile) {
         Ok(own) => by_outline(alloc, profile, program, &own.outline),
         Err(_) => Err(CertifyError::OutOfMemory),
+    }
+}
+
+/// The certificate of a filter that anyone made, in the parts in which the filter itself asks for rules: it may be made of the same rules
+/// in another order.
+pub(crate) fn by_its_order(
+    alloc: Global,
+    profile: &Profile,
+    program: Accepted<'_>,
+) -> Result<Hand, CertifyError>
+    ensures { IfErr result (λ e. e ≡ OutOfMemory) }
+{
+    match asked_by(alloc, profile, &program.program()) {
+        Ok(calls) => by_calls(alloc, profile, program, &calls),
+        Err(OutlineError::OutOfMemory) => Err(CertifyError::OutOfMemory),
+        Err(_) => Ok(Hand::Nothing),
     }
 }

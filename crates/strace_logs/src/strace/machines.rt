@@ -16,6 +16,9 @@ pub fn machines_run(native: Arch) -> &'static [Arch]
         Arch::LinuxX32 => &[Arch::LinuxX32],
         Arch::LinuxAarch64 => &[Arch::LinuxAarch64, Arch::LinuxArm],
         Arch::LinuxArm => &[Arch::LinuxArm],
+        Arch::LinuxRiscv64 => &[Arch::LinuxRiscv64],
+        Arch::LinuxPpc64le => &[Arch::LinuxPpc64le],
+        Arch::LinuxLoongarch64 => &[Arch::LinuxLoongarch64],
     }
 }
 

@@ -1,7 +1,7 @@
 -- What stays told where more is found.
 use Rattle.std.specs.Prelude.{◌≡◌, ℕ, true}
 use Rattle.std.specs.List.{list_any}
-use Rattle.differ.specs.inner.Named.{is_named}
+use Rattle.differ.specs.Named.{is_named}
 use Rattle.unread_bits.specs.Past.{is_past_of}
 use Rattle.unread_bits.specs.declared.calls.AllPast.{AllPast}
 

@@ -128,9 +128,12 @@ pub(crate) fn of_name(arch: Arch, name: &str) -> Option<[Reading; 6]>
     match arch {
         Arch::X86_64 => shared(name),
         Arch::LinuxX86_64 => shared(name),
+        Arch::LinuxLoongarch64 => shared(name),
         Arch::LinuxX32 => on_x32(name),
         Arch::Aarch64 => on_aarch64(name),
         Arch::LinuxAarch64 => on_aarch64(name),
+        Arch::LinuxRiscv64 => on_aarch64(name),
+        Arch::LinuxPpc64le => on_aarch64(name),
         Arch::LinuxX86 => find(of_x86(), name),
         Arch::LinuxArm => None,
     }

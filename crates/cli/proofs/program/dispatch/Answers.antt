@@ -4,7 +4,7 @@ use Rattle.command_line.specs.declared.prose.Command.TheVariants.{Certify, Check
 use Rattle.command_line.specs.Lines.{texts}
 use Rattle.cli.specs.Dispatch.{Does}
 use Rattle.cli.specs.Stop.{ReportsOn}
-use Rattle.cli.proofs.StatusLaws.{behind_is_right, certify_is_right, check_is_right, run_is_answered}
+use Rattle.cli.proofs.StatusLaws.{all_behind_is_right, behind_is_right, certify_is_right, check_is_right, run_is_answered}
 use Rattle.cli.proofs.UnbegunLaws.{tells_misuse}
 use Rattle.cli.proofs.program.dispatch.Goals as goal
 
@@ -49,6 +49,14 @@ returns-in-Ok-true-clause-certify_runc g c machine bundle filter is e =
     (subst (λ b. Does g.I.Source.left g.I.Source.failures g.O.Sink.held g.O.Sink.failures (g.F.Files.folder c.args.files.now)
     c.args.input.now c.carry_out.new.input c.args.out.now c.carry_out.new.out (Certify, machine ∷ bundle ∷ filter ∷ codes "runc" ∷ []) (Ok b))
     c.in-Ok-true.field-0-test (c.in-Ok-true.ensures.does (Certify, machine ∷ bundle ∷ filter ∷ codes "runc" ∷ []) is))
+
+pub returns-in-Ok-true-clause-certify_runc_all : goal.returns-in-Ok-true-clause-certify_runc_all
+returns-in-Ok-true-clause-certify_runc_all g c machine bundle filter is e =
+    all_behind_is_right g.I.Source.left g.I.Source.failures g.O.Sink.held g.O.Sink.failures (g.F.Files.folder c.args.files.now) c.args.input.now
+    c.carry_out.new.input c.args.out.now c.carry_out.new.out machine bundle filter
+    (subst (λ b. Does g.I.Source.left g.I.Source.failures g.O.Sink.held g.O.Sink.failures (g.F.Files.folder c.args.files.now)
+    c.args.input.now c.carry_out.new.input c.args.out.now c.carry_out.new.out (Certify, machine ∷ bundle ∷ filter ∷ codes "runc" ∷ codes "all" ∷ []) (Ok b))
+    c.in-Ok-true.field-0-test (c.in-Ok-true.ensures.does (Certify, machine ∷ bundle ∷ filter ∷ codes "runc" ∷ codes "all" ∷ []) is))
 
 pub returns-in-Ok-true-clause-run : goal.returns-in-Ok-true-clause-run
 returns-in-Ok-true-clause-run g c machine bundles is e =

@@ -1,13 +1,16 @@
-use Rattle.std.proofs.Common.{[], ◌∷◌, inl, inr, refl, ⊎_elim}
+use Rattle.std.proofs.Common.{[], ◌∷◌, codes, inl, inr, refl, ⊎_elim}
+use Rattle.std.specs.Str.{bytes_eq}
 use Rattle.explain.specs.Told.{IsAssembled, IsRecorded, IsVersion}
 use Rattle.show.specs.Shown.{IsAnnotated, IsDrawn}
 use Rattle.command_line.specs.Lines.{texts}
 use Rattle.cli.specs.Dispatch.{any_call, explained_as}
-use Rattle.cli.specs.Told.{OfArguments, OfBundle, of_none, of_one}
+use Rattle.cli.specs.Told.{OfArguments, OfBundle, of_none, of_one, of_two}
+use Rattle.cli.specs.Tuned.{TellsTuned}
+use Rattle.cli.specs.inner.Telling.{told_in}
 use Rattle.cli.specs.Read.{TellsLinted}
 use Rattle.cli.specs.Parts.{read}
 use Rattle.cli.proofs.AuditLaws.{answers_audited}
-use Rattle.cli.proofs.DispatchLaws.{answers_adapted, answers_manual, answers_replayed, answers_told}
+use Rattle.cli.proofs.DispatchLaws.{answers_adapted, answers_manual, answers_recovered, answers_replayed, answers_told}
 use Rattle.cli.proofs.LogLaws.{answers_learned}
 use Rattle.cli.proofs.program.obey.Goals as goal
 
@@ -69,6 +72,22 @@ returns-in-Version-clause-does g c = rw c.in-Version.is (
   refl,
   answers_told g.O.Sink.held g.O.Sink.failures (g.F.Files.folder c.args.files.now) [] (of_none IsVersion)
       c.args.out.now c.tell-in-Version.new.out c.tell-in-Version.result c.version.result (c.version.ensures (g.F.Files.folder c.args.files.now)) c.tell-in-Version.ensures,
+)
+
+pub returns-in-Recover-clause-does : goal.returns-in-Recover-clause-does
+returns-in-Recover-clause-does g c = rw c.in-Recover.is (
+  refl,
+  answers_recovered g.O.Sink.held g.O.Sink.failures (g.F.Files.folder c.args.files.now) c.args.out.now c.tell_both-in-Recover.new.out
+      c.args.parts.native c.args.parts.two.now c.asks_bundle.result (bytes_eq c.args.parts.three.now (codes "bundle")) c.asks_bundle.ensures
+      c.tell_both-in-Recover.result c.recovered.result c.recovered.ensures c.tell_both-in-Recover.ensures.told,
+)
+
+pub returns-in-Tune-clause-does : goal.returns-in-Tune-clause-does
+returns-in-Tune-clause-does g c = rw c.in-Tune.is (
+  refl,
+  answers_told g.O.Sink.held g.O.Sink.failures (g.F.Files.folder c.args.files.now) (c.args.parts.two.now ∷ c.args.parts.three.now ∷ [])
+      (of_two (λ text counts. OfBundle c.args.parts.native (TellsTuned c.args.parts.native) text)) c.args.out.now c.tell_both-in-Tune.new.out
+      c.tell_both-in-Tune.result (told_in c.filter_for_counts.result) c.filter_for_counts.ensures c.tell_both-in-Tune.ensures.told,
 )
 
 pub returns-in-Manual-clause-does : goal.returns-in-Manual-clause-does

@@ -5,7 +5,7 @@ use Rattle.differ.specs.OnCall.{AreCrowded, IsFound}
 use Rattle.differ.specs.declared.direction.Direction.TheVariants.{Any}
 use Rattle.differ.specs.declared.found.Found.{Found}
 use Rattle.differ.specs.declared.named.Call.{Call}
-use Rattle.differ.specs.inner.Named.{is_named}
+use Rattle.differ.specs.Named.{is_named}
 use Rattle.compare.specs.Complete.{AreListed, is_on}
 use Rattle.compare.specs.Difference.{IsDifference}
 use Rattle.compare.specs.declared.difference.Difference.{Difference}

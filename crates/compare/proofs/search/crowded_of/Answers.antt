@@ -3,7 +3,7 @@ use Rattle.std.proofs.lemmas.List.{take_all, take_more}
 use Rattle.std.proofs.lemmas.List.Elements.{All-get_or, All-push}
 use Rattle.std.specs.List.{All, list_any}
 use Rattle.differ.specs.OnCall.{AreCrowded}
-use Rattle.differ.specs.inner.Named.{is_call}
+use Rattle.differ.specs.Named.{is_call}
 use Rattle.compare.specs.Complete.{IsCrowded, is_crowded}
 use Rattle.compare.specs.Past.{IsUndecided}
 use Rattle.unread_bits.specs.Crowded as past

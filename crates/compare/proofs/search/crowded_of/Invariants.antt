@@ -2,7 +2,7 @@ use Rattle.std.proofs.Common.{◌≡◌, ℕ, true, take}
 use Rattle.std.specs.List.{All, list_any}
 use Rattle.profile.specs.Policy.{Policy}
 use Rattle.differ.specs.OnCall.{AreCrowded}
-use Rattle.differ.specs.inner.Named.{is_named}
+use Rattle.differ.specs.Named.{is_named}
 use Rattle.compare.specs.Complete.{IsCrowded, is_crowded}
 use Rattle.compare.specs.Past.{IsUndecided}
 use Rattle.unread_bits.specs.Crowded as past

@@ -2,7 +2,7 @@ use Rattle.std.proofs.Common.{◌≡◌, ◌++◌, List, true, sym, ◌∙◌, a
 use Rattle.std.specs.List.{list_any}
 use Rattle.profile.specs.declared.rules.Rule.{Rule}
 use Rattle.differ.specs.OnCall.{is_for}
-use Rattle.differ.specs.inner.Named.{is_named}
+use Rattle.differ.specs.Named.{is_named}
 use Rattle.differ.proofs.everywhere.named_calls.Goals as goal
 
 pub returns-clause-asked : goal.returns-clause-asked

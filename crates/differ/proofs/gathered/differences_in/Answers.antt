@@ -1,9 +1,9 @@
 use Rattle.std.proofs.Common.{◌≡◌, ℕ, List, true, ap, ◌∙◌, subst}
-use Rattle.call_tables.specs.Machines.{aarch64_token, arm_token, x86_64_token, x86_token}
+use Rattle.call_tables.specs.Machines.{aarch64_token, arm_token, loongarch64_token, ppc64le_token, riscv64_token, x86_64_token, x86_token}
 use Rattle.differ.specs.Differences.{AreTold, IsAnswered, IsCovered}
 use Rattle.differ.specs.declared.gathered.Differences.{Differences}
 use Rattle.differ.specs.declared.named.Call.{Call}
-use Rattle.differ.specs.inner.Named.{AreCovered, is_named}
+use Rattle.differ.specs.Named.{AreCovered, is_named}
 use Rattle.differ.proofs.GatheredLaws.{all_covered, answered_stays, none_told}
 use Rattle.differ.proofs.NamedLaws.{AreListed}
 use Rattle.differ.proofs.gathered.differences_in.Goals as goal
@@ -24,6 +24,9 @@ returns c =
       x86 = subst (λ (ns : List Call). AreCovered ns rest x86_token) c.deref.ensures.value c.in_ok-rest.ensures.x86;
       aarch64 = subst (λ (ns : List Call). AreCovered ns rest aarch64_token) c.deref.ensures.value c.in_ok-rest.ensures.aarch64;
       arm = subst (λ (ns : List Call). AreCovered ns rest arm_token) c.deref.ensures.value c.in_ok-rest.ensures.arm;
+      riscv64 = subst (λ (ns : List Call). AreCovered ns rest riscv64_token) c.deref.ensures.value c.in_ok-rest.ensures.riscv64;
+      ppc64le = subst (λ (ns : List Call). AreCovered ns rest ppc64le_token) c.deref.ensures.value c.in_ok-rest.ensures.ppc64le;
+      loongarch64 = subst (λ (ns : List Call). AreCovered ns rest loongarch64_token) c.deref.ensures.value c.in_ok-rest.ensures.loongarch64;
     } in
     let e = c.args.direction in
     let answered : (t n : ℕ) → is_named named t n ≡ true → IsAnswered p q told t n e = λ t n h.

@@ -1,5 +1,5 @@
 use Rattle.std.proofs.Common.{◌≡◌, ◌<◌, ◌≤◌, ◌-◌, ℕ, true}
-use Rattle.differ.specs.inner.Named.{is_named}
+use Rattle.differ.specs.Named.{is_named}
 use Rattle.differ.proofs.named.unnamed.Given as goal
 
 abbrev pub invariant-loop-numbers : goal.invariant-loop-numbers

@@ -1,5 +1,5 @@
 use Rattle.processes.proofs.NumberLaws.{x86_64_numbers, aarch64_numbers, linux_x86_64_numbers, linux_x86_numbers, linux_x32_numbers}
-use Rattle.processes.proofs.NumberLaws.{linux_aarch64_numbers, linux_arm_numbers}
+use Rattle.processes.proofs.NumberLaws.{linux_aarch64_numbers, linux_arm_numbers, linux_riscv64_numbers, linux_ppc64le_numbers, linux_loongarch64_numbers}
 use Rattle.processes.proofs.calls.numbers_of.Goals as goal
 
 pub returns-in-X86_64 : goal.returns-in-X86_64
@@ -22,3 +22,12 @@ returns-in-LinuxAarch64 c = rw c.in-LinuxAarch64.is linux_aarch64_numbers
 
 pub returns-in-LinuxArm : goal.returns-in-LinuxArm
 returns-in-LinuxArm c = rw c.in-LinuxArm.is linux_arm_numbers
+
+pub returns-in-LinuxRiscv64 : goal.returns-in-LinuxRiscv64
+returns-in-LinuxRiscv64 c = rw c.in-LinuxRiscv64.is linux_riscv64_numbers
+
+pub returns-in-LinuxPpc64le : goal.returns-in-LinuxPpc64le
+returns-in-LinuxPpc64le c = rw c.in-LinuxPpc64le.is linux_ppc64le_numbers
+
+pub returns-in-LinuxLoongarch64 : goal.returns-in-LinuxLoongarch64
+returns-in-LinuxLoongarch64 c = rw c.in-LinuxLoongarch64.is linux_loongarch64_numbers

@@ -2,7 +2,7 @@ use Rattle.std.proofs.Common.{◌≡◌, ℕ, true, List, ◌∙◌, ap}
 use Rattle.std.specs.List.{list_any}
 use Rattle.differ.specs.OnCall.{is_for}
 use Rattle.differ.specs.declared.named.Call.{Call}
-use Rattle.differ.specs.inner.Named.{is_named}
+use Rattle.differ.specs.Named.{is_named}
 use Rattle.unread_bits.specs.Past.{IsAnswered}
 use Rattle.unread_bits.proofs.CallLaws.{none_told, nothing_past}
 use Rattle.unread_bits.proofs.calls.all_past.Goals as goal

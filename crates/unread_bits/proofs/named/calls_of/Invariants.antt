@@ -1,7 +1,7 @@
 use Rattle.std.proofs.Common.{◌≡◌, ℕ, true, take}
 use Rattle.std.specs.List.{list_any}
 use Rattle.differ.specs.OnCall.{is_for}
-use Rattle.differ.specs.inner.Named.{is_named}
+use Rattle.differ.specs.Named.{is_named}
 use Rattle.unread_bits.proofs.named.calls_of.Given as goal
 
 abbrev pub invariant-loop-rule : goal.invariant-loop-rule

@@ -1,7 +1,7 @@
 use Rattle.std.proofs.Common.{◌≡◌, List, true, ap, ◌∙◌, sym, subst}
 use Rattle.std.specs.List.{All}
 use Rattle.differ.specs.declared.named.Call.{Call}
-use Rattle.differ.specs.inner.Named.{is_named}
+use Rattle.differ.specs.Named.{is_named}
 use Rattle.unread_bits.specs.Crowded.{AreCrowded}
 use Rattle.compare.proofs.PastLaws.{past_are}
 use Rattle.compare.proofs.lint.decided.finding.Goals as goal

@@ -1,0 +1,9 @@
+-- What `tune` tells of a bundle.
+use Rattle.std.specs.Prelude.{ℕ, ◌≡◌, true, List}
+use Rattle.call_tables.specs.declared.arch.Arch.{Arch}
+use Rattle.tune.specs.Tuned.{IsRightFor}
+use Rattle.wording.specs.declared.told.Told.{Told}
+
+-- where it was done, what is told is a filter of which the checker says yes by some certificate
+abbrev pub TellsTuned : Arch → List ℕ → Told → Type 0
+TellsTuned native bundle told = told.done ≡ true → (cert : List ℕ) × IsRightFor native bundle told.bytes.items cert

@@ -1,0 +1,163 @@
+//! What `ccell certify` does of a filter behind the stub that runc puts in front of it, if it does not stop at the first call.
+ghost use Rattle.std.specs.Prelude.{◌≡◌, ◌⊎◌, ℕ, IfOk, List, Ok, OnErr};
+ghost use Rattle.call_tables.specs.declared.arch.Arch.{Arch as TheArch};
+ghost use Rattle.compare.specs.Behind.{CertifiesAllBehind, IsBehind, IsJudgedBehind, IsNoConviction, WritesBehind};
+ghost use Rattle.compare.specs.Convictions.{WritesLines};
+ghost use Rattle.maker.specs.declared.evidence.evidence.Conviction.{Conviction as TheConviction};
+ghost use Rattle.maker.specs.declared.evidence.evidence.Evidence.TheVariants.{Convicting};
+ghost use Rattle.maker.specs.evidence.Conviction.{IsCertificate};
+ghost use Rattle.explain.specs.Explainer.{Reads};
+ghost use Rattle.compare.specs.declared.behind_runc.stub.calls.Calls.{Calls as TheCalls};
+ghost use Rattle.maker.specs.Exported.{LacksMemory};
+ghost use Rattle.cli.specs.Dispatch.{AnswersAllBehind, ExplainsAllBehind};
+ghost use Rattle.cli.specs.Explained.{MayTellEach, MayTellWhy, TellsAllBehind};
+
+use crate::behind::lines_of;
+use crate::comparing::put_text;
+use crate::files::{Files, read_bundle, read_filter};
+use crate::stops::Stop;
+use call_tables::Arch;
+use compare::{
+    Behind, Judged, behind_stub, convictions_behind, judge_behind, write_behind, write_convictions,
+};
+use explain::Explainer;
+use maker::{Conviction, Evidence};
+use std::alloc::Global;
+use texts::{Sink, WriteFault};
+
+// Explains a record that convicts a filter, if there is memory.
+fn tell_why<E: Sink>(alloc: Global, explainer: &Explainer, found: &Conviction, err: &mut E)
+    ensures { (native : TheArch) (bundle : List ℕ) → Reads native bundle explainer.now
+        → MayTellWhy E.held E.failures err.old err.new native bundle found.now.call }
+{
+    if let Ok(text) = explainer.explanation(alloc, &found.call) {
+        put_text(text, err);
+    }
+}
+
+// Explains each record, in order.
+fn tell_each<E: Sink>(alloc: Global, explainer: &Explainer, all: &[Conviction], err: &mut E)
+    ensures { (native : TheArch) (bundle : List ℕ) → Reads native bundle explainer.now
+        → MayTellEach E.held E.failures native bundle all.now err.old err.new }
+{
+    match all {
+        [found, more @ ..] => {
+            tell_why(alloc, explainer, found, err);
+            tell_each(alloc, explainer, more, err);
+        }
+        [] => {}
+    }
+}
+
+// The same, if there is memory to read the bundle once more.
+fn explain_each<E: Sink>(
+    alloc: Global,
+    native: Arch,
+    bundle: &[u8],
+    all: &[Conviction],
+    err: &mut E,
+)
+    ensures { MayTellEach E.held E.failures native bundle.now all.now err.old err.new }
+{
+    match Explainer::new(alloc, native, bundle) {
+        Ok(explainer) => tell_each(alloc, &explainer, all, err),
+        Err(_) => {}
+    }
+}
+
+// Writes the lines of all records that were found, if this evidence is one, and else what is judged.
+fn write_evidence<O: Sink>(
+    alloc: Global,
+    judged: &Judged,
+    evidence: &Evidence,
+    all: &[Conviction],
+    out: &mut O,
+) -> Result<bool, WriteFault>
+    ensures found { (one : TheConviction) → evidence.now ≡ Convicting one
+        → WritesLines O.held O.failures out.old out.new all.now result ⊎ LacksMemory out.old out.new result }
+    ensures none { IsCertificate evidence.now → (native : TheArch) (bundle filter rest : List ℕ) (answered : List TheCalls)
+        → IsBehind filter rest answered → IsJudgedBehind native bundle filter rest answered judged.now.whole judged.now.evidence
+        → WritesBehind O.held O.failures out.old out.new native bundle filter rest answered judged.now.whole result }
+{
+    match evidence {
+        Evidence::Convicting(_) => write_convictions(alloc, all, out),
+        Evidence::Certificate(_) => write_behind(alloc, judged, out),
+    }
+}
+
+// Writes what is judged of a filter behind a stub: the lines of all records that were found, if it is convicted.
+fn write_found<O: Sink>(
+    alloc: Global,
+    judged: &Judged,
+    all: &[Conviction],
+    out: &mut O,
+) -> Result<bool, WriteFault>
+    ensures found { (one : TheConviction) → judged.now.evidence ≡ Ok (Convicting one)
+        → WritesLines O.held O.failures out.old out.new all.now result ⊎ LacksMemory out.old out.new result }
+    ensures none { IsNoConviction judged.now.evidence → (native : TheArch) (bundle filter rest : List ℕ) (answered : List TheCalls)
+        → IsBehind filter rest answered → IsJudgedBehind native bundle filter rest answered judged.now.whole judged.now.evidence
+        → WritesBehind O.held O.failures out.old out.new native bundle filter rest answered judged.now.whole result }
+{
+    match &judged.evidence {
+        Ok(evidence) => write_evidence(alloc, judged, evidence, all, out),
+        Err(_) => write_behind(alloc, judged, out),
+    }
+}
+
+// Writes what is judged of a filter behind a stub. It reports on standard error which calls the stub answers, and what the bundle says of
+// each record that was told. If there is no memory for these lines, nothing is written at all.
+fn judge<O: Sink, E: Sink>(
+    alloc: Global,
+    native: Arch,
+    bundle: &[u8],
+    filter: &[u8],
+    out: &mut O,
+    err: &mut E,
+) -> Result<bool, WriteFault>
+    ensures written { CertifiesAllBehind O.held O.failures out.old out.new native bundle.now filter.now result }
+    ensures stopped { OnErr result (err.new ≡ err.old) }
+    ensures told { IfOk result (λ done. TellsAllBehind O.held O.failures out.old out.new E.held E.failures err.old err.new native
+        bundle.now filter.now (Ok done)) }
+{
+    let behind = match behind_stub(alloc, filter) {
+        Ok(behind) => behind,
+        Err(_no_memory) => return Err(WriteFault::OutOfMemory),
+    };
+    let judged = judge_behind(alloc, native, bundle, filter, &behind);
+    let lines = match lines_of(alloc, native, filter, &behind, judged.whole) {
+        Ok(lines) => lines,
+        Err(_no_memory) => return Err(WriteFault::OutOfMemory),
+    };
+    let all = match convictions_behind(alloc, native, bundle, filter, &behind, &judged) {
+        Ok(all) => all,
+        Err(_no_memory) => return Err(WriteFault::OutOfMemory),
+    };
+    let done = match write_found(alloc, &judged, &all, out) {
+        Ok(done) => done,
+        Err(fault) => return Err(fault),
+    };
+    put_text(lines, err);
+    explain_each(alloc, native, bundle, &all, err);
+    Ok(done)
+}
+
+/// Writes a certificate that a filter behind runc's stub answers what a bundle says, or a record of each call that is found on which it
+/// does not. Standard error tells which calls the stub answers.
+pub(crate) fn certify_all_behind<'a, F: Files, O: Sink, E: Sink>(
+    alloc: Global,
+    native: Arch,
+    bundle: &'a str,
+    filter: &'a str,
+    files: &mut F,
+    out: &mut O,
+    err: &mut E,
+) -> Result<bool, Stop<'a>>
+    ensures answers { AnswersAllBehind O.held O.failures (F.folder files.old) out.old out.new native bundle.entry.now filter.entry.now result }
+    ensures stopped { OnErr result (err.new ≡ err.old) }
+    ensures explained { ExplainsAllBehind O.held O.failures E.held E.failures (F.folder files.old) out.old out.new err.old err.new
+        native bundle.entry.now filter.entry.now result }
+{
+    let bundle = read_bundle(alloc, native, files, bundle)?;
+    let filter = read_filter(alloc, files, filter)?;
+    Ok(judge(alloc, native, &bundle, &filter, out, err)?)
+}

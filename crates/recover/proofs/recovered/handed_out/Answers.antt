@@ -1,0 +1,10 @@
+use Rattle.std.proofs.Common.{subst}
+use Rattle.std.specs.String.{string_bytes}
+use Rattle.maker.specs.Certified.{IsEvidenceFor}
+use Rattle.recover.proofs.RecoveredLaws.{recovered_by}
+use Rattle.recover.proofs.recovered.handed_out.Goals as goal
+
+pub returns-in-Certificate : goal.returns-in-Certificate
+returns-in-Certificate c = λ native filter is.
+    recovered_by native (string_bytes c.args.bundle) filter c.in-Certificate._certificate.items
+    (subst (IsEvidenceFor native (string_bytes c.args.bundle) filter) c.in-Certificate.is is)

@@ -1,0 +1,59 @@
+//! Entries: names of which the same is said.
+use crate::names::Named;
+use crate::said::Said;
+use std::alloc::{AllocError, Global};
+
+/// Names, and what is said of their calls.
+#[derive(Drop)]
+pub(crate) struct Entry {
+    pub(crate) names: Vec<&'static str>,
+    pub(crate) said: Said,
+}
+
+// A copy of what is said.
+fn copy_of(alloc: Global, said: &Said) -> Result<Said, AllocError> {
+    Ok(Said {
+        word: said.word,
+        conds: Vec::from_slice(alloc, &said.conds)?,
+    })
+}
+
+// Adds a name to the entry that says this, or to a new one.
+fn push_said(
+    alloc: Global,
+    found: &mut Vec<Entry>,
+    name: &'static str,
+    said: &Said,
+) -> Result<(), AllocError> {
+    for entry in found.iter_mut() {
+        if entry.said == *said {
+            entry.names.push(name)?;
+            return Ok(());
+        }
+    }
+    let mut names = Vec::new(alloc);
+    names.push(name)?;
+    found.push(Entry {
+        names,
+        said: copy_of(alloc, said)?,
+    })?;
+    Ok(())
+}
+
+/// The entries of what is said of names: those without conditions first, and the names of each in order.
+pub(crate) fn entries_of(alloc: Global, named: &[Named]) -> Result<Vec<Entry>, AllocError> {
+    let mut found = Vec::new(alloc);
+    for has_conditions in [false, true] {
+        for one in named {
+            for said in one.said() {
+                if said.conds.is_empty() != has_conditions {
+                    push_said(alloc, &mut found, one.name, said)?;
+                }
+            }
+        }
+    }
+    for entry in found.iter_mut() {
+        entry.names.sort()?;
+    }
+    Ok(found)
+}

@@ -1,0 +1,32 @@
+//! What profile does a filter have? The section of a bundle whose meaning is the filter's on each call record, or what no section says.
+//!
+//! Each number of a call is followed through the filter, and the comparisons that it may meet tell which arguments stand for all others.
+//! The filter's verdicts on these are put into entries, as few as are easily found. None of this is trusted: what is written is read again,
+//! and handed out only with a certificate, to which the checker said yes, that the filter answers what it says.
+#![tactic(auto)]
+
+mod asked;
+mod calls;
+mod cells;
+mod classes;
+mod covering;
+mod draft;
+mod entries;
+mod leaves;
+mod machines;
+mod marks;
+mod names;
+mod numbers;
+mod paths;
+mod pieces;
+mod recovered;
+mod said;
+mod survey;
+mod telling;
+mod text;
+mod unlike;
+mod unsaid;
+
+pub use recovered::recover;
+pub use telling::line_of;
+pub use unsaid::{Shown, Unsaid};

@@ -1,0 +1,194 @@
+//! Which machines a filter answers, and what it answers to numbers without a name.
+use crate::calls::{hear, plain_record, show};
+use crate::cells::Cell;
+use crate::leaves::Called;
+use crate::numbers::{cells_or_all, named_of, number_cells, unnamed_of};
+use crate::survey::{Known, survey_of};
+use crate::unsaid::{Shown, Unsaid};
+use call_record::Word;
+use call_tables::{Arch, Family};
+use kernel_check::Accepted;
+use std::alloc::Global;
+
+/// A machine that is listed: its numbers with a name, and numbers that stand for those without.
+#[derive(Drop)]
+pub(crate) struct Listed {
+    pub(crate) arch: Arch,
+    pub(crate) named: Vec<u32>,
+    pub(crate) unnamed: Vec<u32>,
+}
+
+// Whether each call of which this is known is killed, as far as it can be seen.
+fn are_killed(alloc: Global, program: &Accepted<'_>, known: Known) -> Result<bool, Unsaid> {
+    let found = survey_of(alloc, program, known)?;
+    match found.only() {
+        Some(word) => Ok(word == Word::KILL_THREAD.0),
+        None => Ok(false),
+    }
+}
+
+// Whether each call with one of these numbers is killed.
+fn are_all_killed(
+    alloc: Global,
+    program: &Accepted<'_>,
+    token: u32,
+    numbers: &[u32],
+) -> Result<bool, Unsaid> {
+    match numbers {
+        [number, more @ ..] => {
+            let known = Known {
+                token: Some(token),
+                number: Some(*number),
+            };
+            match are_killed(alloc, program, known) {
+                Ok(true) => are_all_killed(alloc, program, token, more),
+                found => found,
+            }
+        }
+        [] => Ok(true),
+    }
+}
+
+// A machine with its numbers, unless it is another than the native one and all its calls are killed.
+fn listed_if(
+    alloc: Global,
+    program: &Accepted<'_>,
+    native: Arch,
+    arch: Arch,
+) -> Result<Option<Listed>, Unsaid> {
+    let token = arch.token();
+    let known = Known {
+        token: Some(token),
+        number: None,
+    };
+    if arch != native && are_killed(alloc, program, known)? {
+        return Ok(None);
+    }
+    let cells = number_cells(alloc, program, token)?;
+    let named = named_of(alloc, arch)?;
+    let unnamed = unnamed_of(alloc, arch, &cells)?;
+    if arch != native
+        && are_all_killed(alloc, program, token, &named)?
+        && are_all_killed(alloc, program, token, &unnamed)?
+    {
+        return Ok(None);
+    }
+    Ok(Some(Listed {
+        arch,
+        named,
+        unnamed,
+    }))
+}
+
+/// The machines of which the filter does not kill all calls, and the native one.
+pub(crate) fn machines_of(
+    alloc: Global,
+    program: &Accepted<'_>,
+    native: Arch,
+) -> Result<Vec<Listed>, Unsaid> {
+    let mut found = Vec::new(alloc);
+    for arch in native.family().machines() {
+        if let Some(machine) = listed_if(alloc, program, native, *arch)? {
+            found.push(machine)?;
+        }
+    }
+    Ok(found)
+}
+
+// How many tokens are tried until there is one that no machine has.
+const MOST_TRIED: usize = 16;
+
+// Whether a machine of the family has the token.
+fn is_known(family: Family, token: u32) -> bool {
+    family.machines().iter().any(|arch| arch.token() == token)
+}
+
+// The first token in a cell that no machine of the family has.
+fn unknown_in(family: Family, cell: Cell) -> Option<u32> {
+    let mut from = 0u32;
+    for _ in 0..MOST_TRIED {
+        let token = cell.least_from(from)?;
+        if !is_known(family, token) {
+            return Some(token);
+        }
+        from = token.checked_add(1)?;
+    }
+    None
+}
+
+// A call with a token that is not killed, if one is found.
+fn not_killed(alloc: Global, program: &Accepted<'_>, token: u32) -> Result<Option<Shown>, Unsaid> {
+    for cell in &number_cells(alloc, program, token)? {
+        let call = Called {
+            token,
+            number: cell.least().unwrap_or(0),
+        };
+        let shown = show(program, plain_record(call));
+        if shown.given != Word::KILL_THREAD {
+            return Ok(Some(shown));
+        }
+    }
+    Ok(None)
+}
+
+/// Refuses a filter that does not kill the calls of machines that no section of the family lists.
+pub(crate) fn refuse_others(
+    alloc: Global,
+    program: &Accepted<'_>,
+    family: Family,
+) -> Result<(), Unsaid> {
+    let known = Known {
+        token: None,
+        number: None,
+    };
+    let found = survey_of(alloc, program, known)?;
+    for cell in &cells_or_all(alloc, &found.asked, 1)? {
+        if let Some(token) = unknown_in(family, *cell)
+            && let Some(shown) = not_killed(alloc, program, token)?
+        {
+            return Err(Unsaid::OtherMachine(shown));
+        }
+    }
+    Ok(())
+}
+
+// The verdict of a number without a name, as it is shown, if the call gets only one.
+fn word_of(
+    alloc: Global,
+    program: &Accepted<'_>,
+    arch: Arch,
+    number: u32,
+) -> Result<Shown, Unsaid> {
+    let call = Called {
+        token: arch.token(),
+        number,
+    };
+    let shown = show(program, plain_record(call));
+    let heard = hear(alloc, program, call, shown.given.0)?;
+    if heard.said.is_empty() {
+        return Ok(shown);
+    }
+    Err(Unsaid::Conditions(shown))
+}
+
+/// The verdict of all calls without a name, shown by one of them.
+pub(crate) fn default_of(
+    alloc: Global,
+    program: &Accepted<'_>,
+    machines: &[Listed],
+) -> Result<Option<Shown>, Unsaid> {
+    let mut found: Option<Shown> = None;
+    for machine in machines {
+        for number in &machine.unnamed {
+            let shown = word_of(alloc, program, machine.arch, *number)?;
+            match found {
+                Some(first) if first.given != shown.given => {
+                    return Err(Unsaid::Unnamed(first, shown));
+                }
+                Some(_) => {}
+                None => found = Some(shown),
+            }
+        }
+    }
+    Ok(found)
+}

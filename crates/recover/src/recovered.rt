@@ -1,0 +1,65 @@
+//! From a filter to the bundle whose meaning is the filter's.
+ghost use Rattle.std.specs.Prelude.{ℕ, List, IfOk, string_bytes};
+ghost use Rattle.call_tables.specs.declared.arch.Arch.{Arch as TheArch};
+ghost use Rattle.maker.specs.Certified.{IsEvidenceFor, IsJudgement};
+ghost use Rattle.recover.specs.Recovered.{IsRecovered};
+
+use crate::draft::drafted;
+use crate::unsaid::Unsaid;
+use bpf_insn::Program;
+use call_tables::Arch;
+use kernel_check::accept;
+use maker::{Evidence, Unready, judge_bundle};
+use std::alloc::Global;
+
+// The bundle that seems to say what the filter of these bytes answers.
+fn draft_of(alloc: Global, native: Arch, filter: &[u8]) -> Result<String, Unsaid> {
+    let program = match Program::view(filter) {
+        Ok(program) => program,
+        Err(fault) => return Err(Unsaid::View(fault)),
+    };
+    match accept(&program) {
+        Ok(accepted) => drafted(alloc, native, &accepted),
+        Err(refused) => Err(Unsaid::Kernel(refused)),
+    }
+}
+
+// The bundle, if the evidence on it and the filter is a certificate, or what convicts the filter.
+fn handed_out(evidence: Evidence, bundle: String) -> Result<String, Unsaid>
+    ensures { (native : TheArch) (filter : List ℕ) → IsEvidenceFor native (string_bytes bundle) filter evidence
+        → IfOk result (λ text. IsRecovered native (string_bytes text) filter) }
+{
+    match evidence {
+        Evidence::Certificate(_certificate) => Ok(bundle),
+        Evidence::Convicting(found) => Err(Unsaid::Unlike(found)),
+    }
+}
+
+// Why a bundle is not handed out of which there is no evidence.
+fn undecided(unready: Unready) -> Unsaid {
+    match unready {
+        Unready::OutOfMemory => Unsaid::OutOfMemory,
+        _ => Unsaid::Undecided(unready),
+    }
+}
+
+// The bundle, if it was judged that the filter has a certificate, or why it is not handed out.
+fn handed_out_if_judged(judged: Result<Evidence, Unready>, bundle: String) -> Result<String, Unsaid>
+    ensures { (native : TheArch) (filter : List ℕ) → IsJudgement native (string_bytes bundle) filter judged
+        → IfOk result (λ text. IsRecovered native (string_bytes text) filter) }
+{
+    match judged {
+        Ok(evidence) => handed_out(evidence, bundle),
+        Err(unready) => Err(undecided(unready)),
+    }
+}
+
+/// The bundle whose meaning is the filter's, or what no section says of it. What is written is read again, and handed out only with a
+/// certificate.
+pub fn recover(alloc: Global, native: Arch, filter: &[u8]) -> Result<String, Unsaid>
+    ensures { IfOk result (λ bundle. IsRecovered native (string_bytes bundle) filter.now) }
+{
+    let bundle = draft_of(alloc, native, filter)?;
+    let judged = judge_bundle(alloc, native, bundle.as_bytes(), filter);
+    handed_out_if_judged(judged, bundle)
+}

@@ -1,0 +1,191 @@
+//! What the entries of a call say: verdicts under conditions.
+use crate::classes::{Argument, Classes, Grain, classes_of};
+use crate::covering::{Aim, covering};
+use crate::leaves::Leaf;
+use crate::pieces::Piece;
+use profile::Cond;
+use std::alloc::{AllocError, Global};
+
+/// A verdict, and the conditions under which it is given.
+#[derive(Drop, PartialEq, Eq)]
+pub(crate) struct Said {
+    pub(crate) word: u32,
+    pub(crate) conds: Vec<Cond>,
+}
+
+/// The verdict of all that nothing else is said of, and how arguments are looked at.
+#[derive(Clone, Copy)]
+pub(crate) struct Manner {
+    pub(crate) default: u32,
+    pub(crate) grain: Grain,
+}
+
+// What is said for some classes of an argument: those for which it was found, and those for which it is true.
+#[derive(Drop)]
+struct Found {
+    said: Said,
+    aim: Aim,
+}
+
+// Whether all conditions hold of some records of a leaf.
+fn meets(leaf: &Leaf, said: &Said) -> bool {
+    said.conds
+        .iter()
+        .all(|cond| Piece::of_leaf(leaf, cond.index).may_meet(cond))
+}
+
+// Whether what is said is true of leaves.
+fn is_true(leaves: &[Leaf], said: &Said) -> bool {
+    leaves
+        .iter()
+        .all(|leaf| leaf.word == said.word || !meets(leaf, said))
+}
+
+// For which classes it is true.
+fn allowed(alloc: Global, classes: &Classes, said: &Said) -> Result<Vec<bool>, AllocError> {
+    let mut found = Vec::new(alloc);
+    for leaves in &classes.leaves {
+        found.push(is_true(leaves, said))?;
+    }
+    Ok(found)
+}
+
+// Tells that a class is needed.
+fn need(aim: &mut Aim, class: usize) {
+    if let Some(is_needed) = aim.needed.get_mut(class) {
+        *is_needed = true;
+    }
+}
+
+// No class yet.
+fn none_of(alloc: Global, count: usize) -> Result<Vec<bool>, AllocError> {
+    let mut found = Vec::new(alloc);
+    for _ in 0..count {
+        found.push(false)?;
+    }
+    Ok(found)
+}
+
+// Adds that something is said for a class.
+fn push_found(
+    alloc: Global,
+    list: &mut Vec<Found>,
+    classes: &Classes,
+    class: usize,
+    said: Said,
+) -> Result<(), AllocError> {
+    for found in list.iter_mut() {
+        if found.said == said {
+            need(&mut found.aim, class);
+            return Ok(());
+        }
+    }
+    let mut aim = Aim {
+        needed: none_of(alloc, classes.leaves.len())?,
+        allowed: allowed(alloc, classes, &said)?,
+    };
+    need(&mut aim, class);
+    list.push(Found { said, aim })?;
+    Ok(())
+}
+
+// The same under one more condition.
+fn under(alloc: Global, cond: Cond, said: &Said) -> Result<Said, AllocError> {
+    let mut conds = Vec::new(alloc);
+    conds.push(cond)?;
+    for other in &said.conds {
+        conds.push(*other)?;
+    }
+    Ok(Said {
+        word: said.word,
+        conds,
+    })
+}
+
+// Adds what is said under conditions on an argument; false if no conditions are found.
+fn push_under(
+    alloc: Global,
+    all: &mut Vec<Said>,
+    argument: &Argument,
+    found: Found,
+) -> Result<bool, AllocError> {
+    let Found { said, aim } = found;
+    if aim.allows_all() {
+        all.push(said)?;
+        return Ok(true);
+    }
+    let Some(conds) = covering(alloc, argument, &aim)? else {
+        return Ok(false);
+    };
+    for cond in &conds {
+        all.push(under(alloc, *cond, &said)?)?;
+    }
+    Ok(true)
+}
+
+// What is said under conditions on an argument.
+fn combined(
+    alloc: Global,
+    argument: &Argument,
+    list: Vec<Found>,
+) -> Result<Option<Vec<Said>>, AllocError> {
+    let mut all = Vec::new(alloc);
+    for found in list {
+        if !push_under(alloc, &mut all, argument, found)? {
+            return Ok(None);
+        }
+    }
+    Ok(Some(all))
+}
+
+// What is said where one verdict is given.
+fn said_always(alloc: Global, word: u32, default: u32) -> Result<Vec<Said>, AllocError> {
+    let mut said = Vec::new(alloc);
+    if word != default {
+        said.push(Said {
+            word,
+            conds: Vec::new(alloc),
+        })?;
+    }
+    Ok(said)
+}
+
+/// The one verdict of leaves, if they have no other.
+pub(crate) fn only_word(leaves: &[Leaf]) -> Option<u32> {
+    let first = leaves.first()?;
+    if leaves.iter().all(|leaf| leaf.word == first.word) {
+        Some(first.word)
+    } else {
+        None
+    }
+}
+
+/// Verdicts under conditions that say the verdict of each leaf, unless it is the default one, by so many last arguments. None if no
+/// conditions are found.
+pub(crate) fn said_of(
+    alloc: Global,
+    leaves: &[Leaf],
+    manner: Manner,
+    left: u8,
+) -> Result<Option<Vec<Said>>, AllocError> {
+    if let Some(word) = only_word(leaves) {
+        return Ok(Some(said_always(alloc, word, manner.default)?));
+    }
+    if left == 0 {
+        return Ok(None);
+    }
+    let index = 6u8.saturating_sub(left);
+    let Some(classes) = classes_of(alloc, leaves, index, manner.grain)? else {
+        return Ok(None);
+    };
+    let mut list = Vec::new(alloc);
+    for (class, leaves) in classes.leaves.iter().enumerate() {
+        let Some(said) = said_of(alloc, leaves, manner, left - 1)? else {
+            return Ok(None);
+        };
+        for one in said {
+            push_found(alloc, &mut list, &classes, class, one)?;
+        }
+    }
+    combined(alloc, &classes.argument, list)
+}
