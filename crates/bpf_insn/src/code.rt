@@ -3,7 +3,7 @@ ghost use Rattle.std.specs.Prelude.{ℕ, ◌≡◌, Some};
 ghost use Rattle.bpf_insn.specs.Code.{code_of, operation_of};
 
 /// The second operand of a comparison or a computation (`BPF_K`, `BPF_X`).
-#[derive(Clone, Copy, Debug, PartialEq, Eq)]
+#[derive(Clone, Copy, PartialEq, Eq)]
 pub enum Operand {
     /// The instruction's own number.
     K,
@@ -25,7 +25,7 @@ pub enum Test {
 }
 
 /// What is computed of A and an operand, modulo 2^32.
-#[derive(Clone, Copy, Debug, PartialEq, Eq)]
+#[derive(Clone, Copy, PartialEq, Eq)]
 pub enum Arithmetic {
     Add,
     Sub,
@@ -35,7 +35,7 @@ pub enum Arithmetic {
 }
 
 /// What an instruction does. A filter of a seccomp call record has these and no others.
-#[derive(Clone, Copy, Debug, PartialEq, Eq)]
+#[derive(Clone, Copy, PartialEq, Eq)]
 pub enum Operation {
     /// `LD W ABS`: A becomes the word of the record at byte k.
     LoadWord,

@@ -6,11 +6,31 @@ use Rattle.std.specs.List.{slice_split}
 use Rattle.std.specs.Option.{option_or}
 use Rattle.call_tables.specs.Table.{number_in}
 use Rattle.call_words.specs.Numbers.{number_of}
-use Rattle.call_words.specs.declared.constants.TheConstants.{CONSTANTS}
+use Rattle.call_words.specs.declared.constants.TheConstants.{FILES, IOCTL, MEMORY, PRCTL, PROCESSES, SOCKETS}
 
--- the number of a constant of the kernel's headers, by the table
+-- the tables of the kernel's headers: each constant with its number
+unfoldable pub sockets : List (List ℕ × ℕ)
+sockets = map (λ e. (e.0.now, e.1)) SOCKETS.now
+
+unfoldable pub processes : List (List ℕ × ℕ)
+processes = map (λ e. (e.0.now, e.1)) PROCESSES.now
+
+unfoldable pub prctl : List (List ℕ × ℕ)
+prctl = map (λ e. (e.0.now, e.1)) PRCTL.now
+
+unfoldable pub ioctl : List (List ℕ × ℕ)
+ioctl = map (λ e. (e.0.now, e.1)) IOCTL.now
+
+unfoldable pub memory : List (List ℕ × ℕ)
+memory = map (λ e. (e.0.now, e.1)) MEMORY.now
+
+unfoldable pub files : List (List ℕ × ℕ)
+files = map (λ e. (e.0.now, e.1)) FILES.now
+
+-- the number of a constant, by the first table that has it
 unfoldable pub constant_of : List ℕ → Option ℕ
-constant_of name = number_in (map (λ e. (e.0.now, e.1)) CONSTANTS.now) name
+constant_of name = option_or (option_or (option_or (option_or (option_or (number_in sockets name) (number_in processes name))
+    (number_in prctl name)) (number_in ioctl name)) (number_in memory name)) (number_in files name)
 
 abbrev pub bar : ℕ
 bar = 124

@@ -1,8 +1,8 @@
 //! Constants of the kernel's headers that profiles compare arguments with. Those stand here that are one number on x86-64, x86, x32,
-//! AArch64 and ARM: `O_DIRECTORY` and `MAP_32BIT` do not.
+//! AArch64 and ARM: `O_DIRECTORY` and `MAP_32BIT` do not. Each name has its number beside it.
 
-/// Each name and its number.
-pub(crate) const CONSTANTS: &[(&str, u64)] = &[
+/// Of sockets.
+pub(crate) const SOCKETS: &[(&str, u64)] = &[
     // address families, the first argument of socket and socketpair (<sys/socket.h>)
     ("AF_UNSPEC", 0),
     ("AF_UNIX", 1),
@@ -59,6 +59,10 @@ pub(crate) const CONSTANTS: &[(&str, u64)] = &[
     ("SOCK_PACKET", 10),
     ("SOCK_NONBLOCK", 0x800),
     ("SOCK_CLOEXEC", 0x8_0000),
+];
+
+/// Of processes.
+pub(crate) const PROCESSES: &[(&str, u64)] = &[
     // flags of clone, unshare and setns (<linux/sched.h>)
     ("CLONE_NEWTIME", 0x80),
     ("CLONE_VM", 0x100),
@@ -84,6 +88,27 @@ pub(crate) const CONSTANTS: &[(&str, u64)] = &[
     ("CLONE_NEWPID", 0x2000_0000),
     ("CLONE_NEWNET", 0x4000_0000),
     ("CLONE_IO", 0x8000_0000),
+    // personalities (<linux/personality.h>)
+    ("PER_LINUX", 0),
+    ("PER_LINUX_32BIT", 0x80_0000),
+    ("PER_LINUX_FDPIC", 0x8_0000),
+    ("PER_LINUX32", 8),
+    ("PER_LINUX32_3GB", 0x800_0008),
+    ("UNAME26", 0x2_0000),
+    ("ADDR_NO_RANDOMIZE", 0x4_0000),
+    ("FDPIC_FUNCPTRS", 0x8_0000),
+    ("MMAP_PAGE_ZERO", 0x10_0000),
+    ("ADDR_COMPAT_LAYOUT", 0x20_0000),
+    ("READ_IMPLIES_EXEC", 0x40_0000),
+    ("ADDR_LIMIT_32BIT", 0x80_0000),
+    ("SHORT_INODE", 0x100_0000),
+    ("WHOLE_SECONDS", 0x200_0000),
+    ("STICKY_TIMEOUTS", 0x400_0000),
+    ("ADDR_LIMIT_3GB", 0x800_0000),
+];
+
+/// Of prctl.
+pub(crate) const PRCTL: &[(&str, u64)] = &[
     // operations of prctl (<linux/prctl.h>)
     ("PR_SET_PDEATHSIG", 1),
     ("PR_GET_PDEATHSIG", 2),
@@ -137,6 +162,10 @@ pub(crate) const CONSTANTS: &[(&str, u64)] = &[
     ("PR_SCHED_CORE", 62),
     ("PR_SET_VMA", 0x5356_4d41),
     ("PR_SET_PTRACER", 0x5961_6d61),
+];
+
+/// Of ioctl.
+pub(crate) const IOCTL: &[(&str, u64)] = &[
     // requests of ioctl (<sys/ioctl.h>)
     ("TCGETS", 0x5401),
     ("TCSETS", 0x5402),
@@ -172,23 +201,10 @@ pub(crate) const CONSTANTS: &[(&str, u64)] = &[
     ("FIONCLEX", 0x5450),
     ("FIOCLEX", 0x5451),
     ("FIOASYNC", 0x5452),
-    // personalities (<linux/personality.h>)
-    ("PER_LINUX", 0),
-    ("PER_LINUX_32BIT", 0x80_0000),
-    ("PER_LINUX_FDPIC", 0x8_0000),
-    ("PER_LINUX32", 8),
-    ("PER_LINUX32_3GB", 0x800_0008),
-    ("UNAME26", 0x2_0000),
-    ("ADDR_NO_RANDOMIZE", 0x4_0000),
-    ("FDPIC_FUNCPTRS", 0x8_0000),
-    ("MMAP_PAGE_ZERO", 0x10_0000),
-    ("ADDR_COMPAT_LAYOUT", 0x20_0000),
-    ("READ_IMPLIES_EXEC", 0x40_0000),
-    ("ADDR_LIMIT_32BIT", 0x80_0000),
-    ("SHORT_INODE", 0x100_0000),
-    ("WHOLE_SECONDS", 0x200_0000),
-    ("STICKY_TIMEOUTS", 0x400_0000),
-    ("ADDR_LIMIT_3GB", 0x800_0000),
+];
+
+/// Of memory.
+pub(crate) const MEMORY: &[(&str, u64)] = &[
     // protection of memory, of mmap and mprotect (<sys/mman.h>)
     ("PROT_NONE", 0),
     ("PROT_READ", 1),
@@ -234,6 +250,10 @@ pub(crate) const CONSTANTS: &[(&str, u64)] = &[
     ("MADV_POPULATE_READ", 22),
     ("MADV_POPULATE_WRITE", 23),
     ("MADV_HWPOISON", 100),
+];
+
+/// Of files, and of ptrace.
+pub(crate) const FILES: &[(&str, u64)] = &[
     // flags of open (<fcntl.h>)
     ("O_RDONLY", 0),
     ("O_WRONLY", 1),

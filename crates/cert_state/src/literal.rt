@@ -1,7 +1,7 @@
 //! What may be known of a word of a record, and of a register.
 
 /// What is known of the word of this index, below 16.
-#[derive(Clone, Copy, Debug, PartialEq, Eq)]
+#[derive(Clone, Copy, PartialEq, Eq)]
 pub enum Lit {
     /// It lies from the first number to the second.
     In(u8, u32, u32),
@@ -26,7 +26,7 @@ impl Lit {
 }
 
 /// What is known of a register or of a scratch word.
-#[derive(Clone, Copy, Debug, PartialEq, Eq)]
+#[derive(Clone, Copy, PartialEq, Eq)]
 pub enum AVal {
     /// Nothing.
     Unknown,
@@ -37,7 +37,7 @@ pub enum AVal {
 }
 
 /// What is known of all that a program holds while it runs.
-#[derive(Clone, Copy, Debug, PartialEq, Eq)]
+#[derive(Clone, Copy, PartialEq, Eq)]
 pub struct Regs {
     /// Of the register A.
     pub a: AVal,

@@ -8,7 +8,7 @@ use Rattle.wording.specs.declared.told.Told.{Told}
 use Rattle.cli.specs.declared.stops.Stop.{Stop}
 use Rattle.cli.specs.Dispatch.{FirstUnread, HaveBundles, HaveBytes, StopsAt}
 use Rattle.cli.specs.Files.{Folder, HasBundle}
-use Rattle.cli.specs.Told.{OfBundle, OfBundles, of_one, of_two}
+use Rattle.cli.specs.Told.{AreTakenAs, OfBundle, OfBundles, of_one, of_two}
 use Rattle.cli.specs.inner.Telling.{IsToldOf, TellsText}
 use Rattle.cli.proofs.DispatchLaws.{now_of, told_both, unread_at}
 
@@ -73,6 +73,15 @@ files_of native folder [] (t ∷ ts) h = absurd h
 files_of native folder (n ∷ ns) [] h = absurd h
 files_of native folder (n ∷ ns) (t ∷ ts) h =
     let rest = files_of native folder ns ts h.1 in (h.0.file ∷ rest.0, (h.0.is, rest.1))
+
+-- the bytes of the files, and that they are taken as the bundles
+pub taken_of : (native : Arch) (folder : Option Folder) (names texts : List (List ℕ)) → HaveBundles native folder names texts
+    → (files : List (List ℕ)) × HaveBytes folder names files × AreTakenAs native files texts
+taken_of native folder [] [] h = ([], tt, tt)
+taken_of native folder [] (t ∷ ts) h = absurd h
+taken_of native folder (n ∷ ns) [] h = absurd h
+taken_of native folder (n ∷ ns) (t ∷ ts) h =
+    let rest = taken_of native folder ns ts h.1 in (h.0.file ∷ rest.0, (h.0.is, rest.1), (h.0.taken, rest.2))
 
 -- of a list of names, up to the one at a place
 module _ (native : Arch) (folder later : Option Folder) (same : later ≡ folder) (ns : List (Bor (List ℕ))) (texts : List (List ℕ)) (i : ℕ)

@@ -2,7 +2,7 @@
 use Rattle.std.proofs.Common.{◌≡◌, ◌⊎◌, ℕ, ◌+◌, ◌<◌, inl, inr, List, [], ◌∷◌, ◌++◌, ap, drop, get_or, length, map, refl, subst, sym, take, ◌∙◌}
 use Rattle.std.proofs.lemmas.List.{get_or_default, map-append, take_more}
 use denote.Ref.{Bor}
-use Rattle.std.specs.Prelude.{Bool, IfOk, Option, None, Some, Result, Ok, Err}
+use Rattle.std.specs.Prelude.{Bool, true, false, IfOk, Option, None, Some, Result, Ok, Err}
 use Rattle.call_tables.specs.declared.arch.Arch.{Arch}
 use Rattle.texts.specs.Failures.{Failures}
 use Rattle.texts.specs.declared.streams.fault.WriteFault.{WriteFault}
@@ -19,14 +19,19 @@ use Rattle.maker.specs.Finding.{WritesFinding}
 use Rattle.cli.specs.declared.stops.Stop.{Stop}
 use Rattle.cli.specs.declared.stops.Stop.TheVariants.{Usage}
 use Rattle.cli.specs.Dispatch.{AnswersAdapt, AnswersAll, AnswersBehind, AnswersCertify, AnswersCheck, AnswersExport, AnswersManual, AnswersReplay}
-use Rattle.cli.specs.Dispatch.{AnswersAllBehind, AnswersRecovered, AnswersTold, AnswersVerdict, ExplainsAllBehind, StopsAtWords}
+use Rattle.cli.specs.Dispatch.{AnswersAllBehind, AnswersCombined, AnswersStack}
+use Rattle.cli.specs.Dispatch.{AnswersRecovered, AnswersTold, AnswersVerdict, ExplainsAllBehind, StopsAtWords}
 use Rattle.cli.specs.Adapted.{AskNothing, IsMadeAs}
+use Rattle.cli.specs.Combined.{TellsCombined, TellsStack}
 use Rattle.cli.specs.Recovered.{TellsRecovered}
 use Rattle.cli.specs.Written.{WritesMade}
-use Rattle.cli.specs.Told.{IsManual, IsReplayed, OfArguments, of_none, of_one, of_two}
+use Rattle.cli.specs.Told.{IsManual, IsReplayed, OfArguments, OfEach, of_none, of_one, of_two}
 use Rattle.cli.specs.declared.adapting.Both.{Both}
+use Rattle.cli.specs.Dispatch.{WritesTold, outcome_by, outcome_of}
+use Rattle.texts.specs.Sink.{Wrote}
 use Rattle.cli.specs.Dispatch.{any_call, explained_as, ExplainsBehind, FirstUnread, HaveBytes, StopsAt}
-use Rattle.cli.specs.inner.Telling.{IsAdaptedOf, IsBundleOf, IsInForm, IsManualOf, IsReplayOf, IsToldOf, TellsOn, TellsText, told_in}
+use Rattle.cli.specs.inner.Telling.{IsAdaptedOf, IsBundleOf, IsCombinedOf, IsInForm, IsManualOf, IsReplayOf, IsStackOf, IsToldOf, TellsOn, TellsText, told_in}
+use Rattle.together.specs.declared.way.Way.{Way}
 use Rattle.cli.specs.Explained.{TellsAllBehind, TellsBehind}
 use Rattle.cli.specs.Files.{Folder, HasBundle, HasBytes, HasEnough}
 use Rattle.cli.specs.Running.{told_line}
@@ -37,6 +42,14 @@ use Rattle.cli.proofs.FileLaws.{behind_of_file, certified_of_file, check_of_file
 
 abbrev pub now_of : Bor (List ℕ) → List ℕ
 now_of name = name.now
+
+-- what is told is written, and the program ends as it says
+pub written_as : {O : Type 0} (held : O → Option (List ℕ)) (failures : O → Failures) (old new : O) (told : Told) (done refused : Bool)
+    → Wrote held failures old new told.bytes.items → outcome_of told ≡ outcome_by done refused
+    → WritesTold held failures old new told (outcome_by done refused)
+written_as held failures old new told true refused written e = (written, e)
+written_as held failures old new told false true written e = (written, e)
+written_as held failures old new told false false written e = (written, e)
 
 -- a file that is read, and one that is not behind it
 pub behind : (folder : Option Folder) (name bytes : List ℕ) (names : List (List ℕ)) (stop : Stop) → HasBytes folder name bytes
@@ -285,6 +298,28 @@ module _ {O : Type 0} (held : O → Option (List ℕ)) (failures : O → Failure
     by told made (inr read) written h =
         inr (answers_told held failures folder (config ∷ []) (of_one Writes) old new result told
         (told_in_form native is.as_bundle folder (config ∷ []) (λ text. OfArguments (IsMadeAs native text) is.others) made told read written) h)
+
+  pub answers_combined : (native : Arch) (way : Way) (words : List (List ℕ)) (result : Result Bool Stop) (both : Result Both Stop)
+      → IsCombinedOf folder native way words (told_in both) → TellsOn held failures old new (told_in both) result
+      → AnswersCombined held failures folder old new native way words result
+  answers_combined native way words result both is h = (
+    is.bundles,
+    is.as_bundle,
+    is.named,
+    answers_told held failures folder is.bundles (λ texts. WritesMade native is.as_bundle (OfEach native (TellsCombined native way) texts)) old new
+        result (told_in both) is.is h,
+  )
+
+  pub answers_stack : (native : Arch) (words : List (List ℕ)) (result : Result Bool Stop) (both : Result Both Stop)
+      → IsStackOf folder native words (told_in both) → TellsOn held failures old new (told_in both) result
+      → AnswersStack held failures folder old new native words result
+  answers_stack native words result both is h = (
+    is.filters,
+    is.as_bundle,
+    is.named,
+    answers_told held failures folder is.filters (λ texts. WritesMade native is.as_bundle (TellsStack native texts)) old new result (told_in both)
+        is.is h,
+  )
 
   pub answers_recovered : (native : Arch) (filter : List ℕ) (as_bundle asked : Bool) → as_bundle ≡ asked → (result : Result Bool Stop)
       (both : Result Both Stop)

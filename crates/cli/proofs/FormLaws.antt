@@ -34,3 +34,14 @@ told_in_form native as_bundle folder names Is (Ok made) (Err stop) read e =
     subst (λ s. FirstUnread folder names s) (sym e) (unread_memory folder names)
 told_in_form native as_bundle folder names Is (Err stop) told at e =
     subst (λ t. IsToldOf folder names (of_one (λ text. WritesMade native as_bundle (Is text))) t) (sym e) at
+
+-- so is what is made of the texts of several
+pub told_each_in_form : (native : Arch) (as_bundle : Bool) (folder : Option Folder) (names : List (List ℕ))
+    (Is : List (List ℕ) → Told → Type 0) (made told : Result Told Stop) → IsToldOf folder names Is made → IsInForm native as_bundle made told
+    → IsToldOf folder names (λ texts. WritesMade native as_bundle (Is texts)) told
+told_each_in_form native as_bundle folder names Is (Ok made) (Ok told) (texts, read, is) written =
+    (texts, read, record { made = made; is = is; written = written })
+told_each_in_form native as_bundle folder names Is (Ok made) (Err stop) read e =
+    subst (λ s. FirstUnread folder names s) (sym e) (unread_memory folder names)
+told_each_in_form native as_bundle folder names Is (Err stop) told at e =
+    subst (λ t. IsToldOf folder names (λ texts. WritesMade native as_bundle (Is texts)) t) (sym e) at

@@ -18,7 +18,7 @@ use Rattle.strace_logs.specs.declared.lists.Runtime.{Runtime}
 use Rattle.strace_logs.specs.declared.reading.Shown.{Shown}
 use Rattle.strace_logs.specs.Taken.{HaveShown}
 use Rattle.cli.specs.declared.stops.Stop.{Stop}
-use Rattle.cli.specs.declared.stops.Stop.TheVariants.{Usage, CannotRead, Read, Write, OutOfMemory}
+use Rattle.cli.specs.declared.stops.Stop.TheVariants.{Usage, CannotRead, Read, Write, OutOfMemory, Refused}
 use Rattle.cli.specs.Dispatch.{AnswersLearn, AnswersLogs, AnswersNamed, FirstUnread, HaveBytes, StopsAtLog}
 use Rattle.cli.specs.Files.{Folder, HasBundle, HasBytes, IsOpened}
 use Rattle.cli.specs.Told.{IsReplayed}
@@ -152,6 +152,7 @@ stops_at_log folder native ns i d lt shown each OutOfMemory at = tt
 stops_at_log folder native ns i d lt shown each Usage at = absurd at
 stops_at_log folder native ns i d lt shown each (Read line) at = absurd at
 stops_at_log folder native ns i d lt shown each (Write out) at = absurd at
+stops_at_log folder native ns i d lt shown each Refused at = absurd at
 
 -- what is told of them is written
 module _ {O : Type 0} (held : O → Option (List ℕ)) (failures : O → Failures) (folder : Option Folder) (old new : O) (native : Arch)

@@ -1,5 +1,5 @@
 -- Commands that are not begun, and the ends of the program that follow.
-use Rattle.std.proofs.Common.{◌≡◌, ℕ, inl, inr, List, [], ◌∷◌, refl, subst, sym}
+use Rattle.std.proofs.Common.{◌≡◌, ◌⊎◌, ◌∙◌, ℕ, inl, inr, List, [], ◌∷◌, refl, subst, sym, ⊎_elim}
 use Rattle.std.specs.Prelude.{Bool, Option, Result, Ok, Err}
 use Rattle.texts.specs.Failures.{Failures}
 use Rattle.command_line.specs.Lines.{Given, Reads, given, texts}
@@ -9,8 +9,8 @@ use Rattle.cli.specs.Parts.{Parts, parts_of}
 use Rattle.command_line.specs.declared.reading.Misuse.{Misuse}
 use Rattle.command_line.specs.declared.reading.Misuse.TheVariants as kind
 use Rattle.cli.specs.declared.stops.Stop.{Stop}
-use Rattle.cli.specs.declared.stops.Stop.TheVariants.{Usage, CannotRead, Read, Write, OutOfMemory}
-use Rattle.cli.specs.Dispatch.{Does, ExplainsBy, ExplainsWhy, IsMisuse, TellsMisuse}
+use Rattle.cli.specs.declared.stops.Stop.TheVariants.{Usage, CannotRead, Read, Write, OutOfMemory, Refused}
+use Rattle.cli.specs.Dispatch.{Does, ExplainsBy, ExplainsWhy, IsMisuse, Tells, TellsMisuse, TellsRefusal}
 use Rattle.cli.specs.Files.{Folder}
 use Rattle.cli.specs.Stop.{ReportsOn, status_of, stop_at_misuse}
 
@@ -40,11 +40,51 @@ pub is_misuse : (misuse : Misuse) (result : Result Bool Stop) → result ≡ Err
 is_misuse kind.Usage result e = subst IsMisuse (sym e) tt
 is_misuse kind.OutOfMemory result e = subst IsMisuse (sym e) tt
 
-pub tells_misuse : {E : Type 0} (held : E → Option (List ℕ)) (failures : E → Failures) (old new : E) (arguments : List (List ℕ)) (stop : Stop)
-    (status : ℕ) → IsMisuse (Err stop) → status ≡ status_of stop → ReportsOn held failures old new arguments stop
-    → TellsMisuse held failures old new arguments status
-tells_misuse held failures old new arguments Usage status is e h = inl (e, h)
-tells_misuse held failures old new arguments OutOfMemory status is e h = inr (e, h)
-tells_misuse held failures old new arguments (CannotRead name) status is e h = absurd is
-tells_misuse held failures old new arguments (Read line) status is e h = absurd is
-tells_misuse held failures old new arguments (Write out) status is e h = absurd is
+-- ---- where the program stops
+
+abbrev ended : Stop → Result Bool Stop
+ended stop = Err stop
+
+-- it stops for another reason than that what was given is refused
+abbrev IsOther : Stop → Type 0
+IsOther Refused = ⊥
+IsOther other = Unit {0}
+
+abbrev IsOtherEnd : Result Bool Stop → Type 0
+IsOtherEnd (Err stop) = IsOther stop
+IsOtherEnd (Ok done) = Unit {0}
+
+is_other : (stop : Stop) → IsOther stop → stop ≡ Refused → ⊥
+is_other stop other e = subst IsOther e other
+
+module _ {E : Type 0} (held : E → Option (List ℕ)) (failures : E → Failures) (old between new : E) (arguments : List (List ℕ)) where
+  -- nothing is told before the line that says why
+  unchanged : (stop : Stop) → IsOther stop → (ended stop ≡ ended Refused) ⊎ (between ≡ old) → between ≡ old
+  unchanged stop other (inl e) = absurd (subst IsOtherEnd e other)
+  unchanged stop other (inr e) = e
+
+  reported : (stop : Stop) → IsOther stop → (ended stop ≡ ended Refused) ⊎ (between ≡ old)
+      → ((stop ≡ Refused → ⊥) → ReportsOn held failures between new arguments stop) → ReportsOn held failures old new arguments stop
+  reported stop other stopped lines =
+      subst (λ e. ReportsOn held failures e new arguments stop) (unchanged stop other stopped) (lines (is_other stop other))
+
+  pub tells_stop : (command : Given) (stop : Stop) → (ended stop ≡ ended Refused) ⊎ (between ≡ old)
+      → (ended stop ≡ ended Refused → TellsRefusal command.0 (parts_of command.1) ⊎ (between ≡ old)) → (stop ≡ Refused → new ≡ between)
+      → ((stop ≡ Refused → ⊥) → ReportsOn held failures between new arguments stop)
+      → Tells held failures old new arguments command (ended stop)
+  tells_stop command Refused stopped refused quiet lines = ⊎_elim inl (λ e. inr (quiet refl ∙ e)) (refused refl)
+  tells_stop command Usage stopped refused quiet lines = reported Usage tt stopped lines
+  tells_stop command OutOfMemory stopped refused quiet lines = reported OutOfMemory tt stopped lines
+  tells_stop command (CannotRead name) stopped refused quiet lines = reported (CannotRead name) tt stopped lines
+  tells_stop command (Read line) stopped refused quiet lines = reported (Read line) tt stopped lines
+  tells_stop command (Write out) stopped refused quiet lines = reported (Write out) tt stopped lines
+
+  pub tells_misuse : (stop : Stop) (status : ℕ) → IsMisuse (Err stop) → status ≡ status_of stop
+      → (ended stop ≡ ended Refused) ⊎ (between ≡ old) → ((stop ≡ Refused → ⊥) → ReportsOn held failures between new arguments stop)
+      → TellsMisuse held failures old new arguments status
+  tells_misuse Usage status is e stopped lines = inl (e, reported Usage tt stopped lines)
+  tells_misuse OutOfMemory status is e stopped lines = inr (e, reported OutOfMemory tt stopped lines)
+  tells_misuse (CannotRead name) status is e stopped lines = absurd is
+  tells_misuse (Read line) status is e stopped lines = absurd is
+  tells_misuse (Write out) status is e stopped lines = absurd is
+  tells_misuse Refused status is e stopped lines = absurd is

@@ -1,13 +1,14 @@
 -- THE PROGRAM. What it writes and the status that it ends with, of a command, of files, and of what is read on standard input.
-use Rattle.std.specs.Prelude.{ℕ, ◌≡◌, ◌⊎◌, ◌||◌, Bool, true, false, List, [], ◌∷◌, ◌++◌, codes}
+use Rattle.std.specs.Prelude.{ℕ, ◌≡◌, ◌⊎◌, ◌||◌, Bool, true, false, nat_eq, List, [], ◌∷◌, ◌++◌, codes}
 use Rattle.std.specs.Prelude.{if◌then◌else◌, Option, Some, None, Result, Ok, Err}
+use Rattle.std.specs.List.{starts_with}
 use Rattle.std.specs.Str.{bytes_eq}
 use Rattle.call_tables.specs.declared.arch.Arch.{Arch}
 use Rattle.command_line.specs.Lines.{Given}
 use Rattle.command_line.specs.declared.prose.Command.{Command}
 use Rattle.command_line.specs.declared.prose.Command.TheVariants.{Verdict, Check, Certify, Export, Run, Explain, Record, Assemble}
 use Rattle.command_line.specs.declared.prose.Command.TheVariants.{Read, Annotate, Draw, Lint, Compare, Adapt, Learn}
-use Rattle.command_line.specs.declared.prose.Command.TheVariants.{Replay, Recover, Tune, Manual, Version}
+use Rattle.command_line.specs.declared.prose.Command.TheVariants.{Replay, Recover, Tune, Join, Meet, Stack, Review, Manual, Version}
 use Rattle.cli.specs.Parts.{Parts, form_of, parts_of}
 use Rattle.texts.specs.Failures.{Failures}
 use Rattle.texts.specs.Sink.{StopsAt as StopsWriting, Wrote}
@@ -32,13 +33,17 @@ use Rattle.maker.specs.Certified.{Certifies}
 use Rattle.maker.specs.Exported.{Exports}
 use Rattle.maker.specs.Finding.{WritesFinding}
 use Rattle.cli.specs.declared.stops.Stop.{Stop}
-use Rattle.cli.specs.declared.stops.Stop.TheVariants.{CannotRead, OutOfMemory, Usage, Write}
+use Rattle.cli.specs.declared.stops.Stop.TheVariants.{CannotRead, OutOfMemory, Refused, Usage, Write}
 use Rattle.cli.specs.Explained.{TellsAllBehind, TellsBehind, TellsRecord}
 use Rattle.cli.specs.Adapted.{AskNothing, IsMadeAs}
 use Rattle.cli.specs.Read.{TellsLinted, TellsRead, TellsRules}
 use Rattle.cli.specs.Recovered.{TellsRecovered}
 use Rattle.cli.specs.Tuned.{TellsTuned}
-use Rattle.cli.specs.Told.{IsManual, IsNoCommand, IsReplayed, NamesLogs, of_none, of_one, of_two, OfArguments, OfBundle, OfBundles}
+use Rattle.review.specs.Reviewed.{IsReviewed}
+use Rattle.cli.specs.Combined.{TellsCombined, TellsStack}
+use Rattle.together.specs.declared.way.Way.{Way}
+use Rattle.together.specs.declared.way.Way.TheVariants.{Laxest, Strictest}
+use Rattle.cli.specs.Told.{IsManual, IsNoCommand, IsReplayed, NamesLogs, of_none, of_one, of_two, OfArguments, OfBundle, OfBundles, OfEach}
 use Rattle.cli.specs.Written.{NamesForm, WritesMade}
 use Rattle.cli.specs.Files.{CannotBeRead, Folder, HasBundle, HasBytes, HasEnough}
 use Rattle.cli.specs.Input.{StopsInput}
@@ -85,7 +90,8 @@ StopsAtLog folder logs (CannotRead name) = BreaksAt folder logs name.now
 StopsAtLog folder logs OutOfMemory = Unit {0}
 StopsAtLog folder logs other = ⊥
 
--- the exit status: 0 where the answer is yes or it was done, 1 where it was refused, 2 or 3 where the program stopped
+-- the exit status: 0 where the answer is yes or it was done, 1 where it is no, 4 where what was given is refused, 2 or 3 where the
+-- program stopped
 abbrev pub exit_status : Result Bool Stop → ℕ
 exit_status (Ok true) = 0
 exit_status (Ok false) = 1
@@ -101,14 +107,17 @@ asks_runc = asks (codes "runc")
 abbrev pub asks_all : Parts → Bool
 asks_all = asks (codes "all")
 
--- `adapt` and `learn` tell on standard error what they changed or added, `recover` which form was written or why none was, `tune` what
--- calls cost, and `certify` with `runc` what the stub answers, also where it was done; no other command does
+-- `adapt` and `learn` tell on standard error what they changed or added, `recover`, `join`, `meet` and `stack` which form was written or
+-- why none was, `tune` what calls cost, and `certify` with `runc` what the stub answers, also where it was done; no other command does
 abbrev pub TellsChanges : Command → Parts → Type 0
 TellsChanges Certify p = asks_runc p ≡ true
 TellsChanges Adapt p = Unit {0}
 TellsChanges Learn p = Unit {0}
 TellsChanges Recover p = Unit {0}
 TellsChanges Tune p = Unit {0}
+TellsChanges Join p = Unit {0}
+TellsChanges Meet p = Unit {0}
+TellsChanges Stack p = Unit {0}
 TellsChanges other p = ⊥
 
 -- `certify` also explains there the record by which its answer is no; no other command tells more of a no than of a yes
@@ -122,6 +131,7 @@ abbrev pub Tells : {E : Type 0} → (E → Option (List ℕ)) → (E → Failure
     → Type 0
 Tells held failures old new arguments given (Ok true) = TellsChanges given.0 (parts_of given.1) ⊎ (new ≡ old)
 Tells held failures old new arguments given (Ok false) = TellsRefusal given.0 (parts_of given.1) ⊎ (new ≡ old)
+Tells held failures old new arguments given (Err Refused) = TellsRefusal given.0 (parts_of given.1) ⊎ (new ≡ old)
 Tells held failures old new arguments given (Err stop) = ReportsOn held failures old new arguments stop
 
 -- a file is not read: the program stops there, and nothing is written
@@ -138,9 +148,27 @@ pub record AnswersBy (Writes : Result Bool WriteFault → Type 0) (result : Resu
   pub written : Writes answer
   pub told : result ≡ told_line answer
 
--- What is told is written, and the program says whether it was done; or a call of the sink failed.
+-- what was given could not be read, as the first words of the answer say: a profile, a filter, a listing, a call, logs, lines, counts
+abbrev pub is_refusal : List ℕ → Bool
+is_refusal bytes =
+    starts_with nat_eq bytes (codes "refused profile ") || (starts_with nat_eq bytes (codes "refused view ")
+    || (starts_with nat_eq bytes (codes "refused kernel ") || (starts_with nat_eq bytes (codes "refused listing ")
+    || (starts_with nat_eq bytes (codes "refused call") || (starts_with nat_eq bytes (codes "refused log ")
+    || (starts_with nat_eq bytes (codes "refused lines") || starts_with nat_eq bytes (codes "refused counts ")))))))
+
+-- how a command ends, by whether it was done, and whether its answer is that what was given is refused
+abbrev pub outcome_by : Bool → Bool → Result Bool Stop
+outcome_by true refused = Ok true
+outcome_by false true = Err Refused
+outcome_by false false = Ok false
+
+abbrev pub outcome_of : Told → Result Bool Stop
+outcome_of told = outcome_by told.done (is_refusal told.bytes.items)
+
+-- What is told is written, and the program ends as it says; or a call of the sink failed.
 abbrev pub WritesTold : {O : Type 0} → (O → Option (List ℕ)) → (O → Failures) → O → O → Told → Result Bool Stop → Type 0
-WritesTold held failures old new told (Ok done) = Wrote held failures old new told.bytes.items × (done ≡ told.done)
+WritesTold held failures old new told (Ok done) = Wrote held failures old new told.bytes.items × (outcome_of told ≡ Ok done)
+WritesTold held failures old new told (Err Refused) = Wrote held failures old new told.bytes.items × (outcome_of told ≡ Err Refused)
 WritesTold held failures old new told (Err (Write out)) = StopsWriting held failures old new told.bytes.items out
 WritesTold held failures old new told (Err other) = ⊥
 
@@ -261,6 +289,18 @@ module _ {O : Type 0} (held : O → Option (List ℕ)) (failures : O → Failure
   AnswersRecovered native as_bundle filter result =
       AnswersTold (filter ∷ []) (of_one (λ text. WritesMade native as_bundle (TellsRecovered native text))) result
 
+  -- the profile that bundles mean together, in the form that the words ask for
+  abbrev pub AnswersCombined : Arch → Way → List (List ℕ) → Result Bool Stop → Type 0
+  AnswersCombined native way words result =
+      (bundles : List (List ℕ)) × (as_bundle : Bool) × NamesForm words bundles as_bundle
+      × AnswersTold bundles (λ texts. WritesMade native as_bundle (OfEach native (TellsCombined native way) texts)) result
+
+  -- the one that filters mean together
+  abbrev pub AnswersStack : Arch → List (List ℕ) → Result Bool Stop → Type 0
+  AnswersStack native words result =
+      (filters : List (List ℕ)) × (as_bundle : Bool) × NamesForm words filters as_bundle
+      × AnswersTold filters (λ texts. WritesMade native as_bundle (TellsStack native texts)) result
+
   -- the commands, or the page of one
   abbrev pub AnswersManual : Option (List ℕ) → Result Bool Stop → Type 0
   AnswersManual name result = (IsNoCommand name × StopsAtWords result) ⊎ AnswersTold [] (of_none (IsManual name)) result
@@ -335,6 +375,11 @@ module _ {I O : Type 0} (left : I → Option (List ℕ)) (given : I → Failures
       (input' ≡ input) × AnswersRecovered held taken folder out out' p.native (bytes_eq p.three (codes "bundle")) p.two result
   DoesWith Tune p result = (input' ≡ input) × AnswersTold held taken folder out out' (p.two ∷ p.three ∷ [])
       (of_two (λ text counts. OfBundle p.native (TellsTuned p.native) text)) result
+  DoesWith Join p result = (input' ≡ input) × AnswersCombined held taken folder out out' p.native Laxest p.from_two result
+  DoesWith Meet p result = (input' ≡ input) × AnswersCombined held taken folder out out' p.native Strictest p.from_two result
+  DoesWith Stack p result = (input' ≡ input) × AnswersStack held taken folder out out' p.native p.from_two result
+  DoesWith Review p result =
+      (input' ≡ input) × AnswersTold held taken folder out out' (p.two ∷ []) (of_one (OfBundle p.native (IsReviewed p.native))) result
   DoesWith Manual p result = (input' ≡ input) × AnswersManual held taken folder out out' p.first result
   DoesWith Version p result = (input' ≡ input) × AnswersTold held taken folder out out' [] (of_none IsVersion) result
 

@@ -13,5 +13,6 @@ pub mod inner
 pub mod Read
 pub mod Recovered
 pub mod Tuned
+pub mod Combined
 pub mod Input
 pub mod Parts

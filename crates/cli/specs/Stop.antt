@@ -12,7 +12,7 @@ use Rattle.session.specs.declared.fault.ScriptFault.TheVariants as script
 use Rattle.command_line.specs.declared.reading.Misuse.{Misuse}
 use Rattle.command_line.specs.declared.reading.Misuse.TheVariants as misuse
 use Rattle.cli.specs.declared.stops.Stop.{Stop}
-use Rattle.cli.specs.declared.stops.Stop.TheVariants.{Usage, CannotRead, Read, Write, OutOfMemory}
+use Rattle.cli.specs.declared.stops.Stop.TheVariants.{Usage, CannotRead, Read, Write, OutOfMemory, Refused}
 
 abbrev pub status_of : Stop → ℕ
 status_of Usage = 2
@@ -20,14 +20,16 @@ status_of (CannotRead name) = 3
 status_of (Read line) = 3
 status_of (Write out) = 3
 status_of OutOfMemory = 3
+status_of Refused = 4
 
--- the text that says it
+-- the text that says it; of what is refused the answer says it, so this one is not written
 abbrev pub text_of : Stop → List ℕ
 text_of Usage = codes "ccell: usage"
 text_of (CannotRead name) = codes "ccell: cannot read " ++ name.now
 text_of (Read line) = codes "ccell: read failed at line " ++ decimal line
 text_of (Write out) = codes "ccell: write failed after " ++ decimal out ++ codes " bytes"
 text_of OutOfMemory = codes "ccell: out of memory"
+text_of Refused = codes "ccell: refused"
 
 -- the line that says it
 abbrev pub line_of : Stop → List ℕ

@@ -29,6 +29,18 @@ pub record OfBundle (native : Arch) (Is : List ℕ → Told → Type 0) (text : 
 abbrev pub OfBundles : Arch → (List ℕ → List ℕ → Told → Type 0) → List ℕ → List ℕ → Told → Type 0
 OfBundles native Is first second told = OfBundle native (λ old. OfBundle native (Is old) second) first told
 
+-- the texts of files are taken as these bundles
+abbrev pub AreTakenAs : Arch → List (List ℕ) → List (List ℕ) → Type 0
+AreTakenAs native [] [] = Unit {0}
+AreTakenAs native (text ∷ texts) (bundle ∷ bundles) = IsBundleText native text bundle × AreTakenAs native texts bundles
+AreTakenAs native texts bundles = ⊥
+
+-- so of the bundles as which the texts of files are taken
+pub record OfEach (native : Arch) (Is : List (List ℕ) → Told → Type 0) (texts : List (List ℕ)) (told : Told) : Type 0 where
+  pub bundles : List (List ℕ)
+  pub taken : AreTakenAs native texts bundles
+  pub is : Is bundles told
+
 abbrev pub of_none : (Told → Type 0) → List (List ℕ) → Told → Type 0
 of_none Is [] told = Is told
 of_none Is texts told = ⊥

@@ -7,6 +7,7 @@ mod all;
 mod all_behind;
 mod auditing;
 mod behind;
+mod combining;
 mod comparing;
 mod explaining;
 mod fault;

@@ -1,5 +1,5 @@
 //! The whole program, from the arguments after its name to its exit status.
-ghost use Rattle.std.specs.Prelude.{◌≡◌, ◌⊎◌, ◌≤◌, ◌∷◌, [], ℕ, List, Err, Ok, OnErr, codes, false, true, map};
+ghost use Rattle.std.specs.Prelude.{◌≡◌, ◌≢◌, ◌⊎◌, ◌≤◌, ◌∷◌, [], ℕ, List, Err, Ok, OnErr, codes, false, true, map};
 ghost use Rattle.std.specs.Str.{bytes_eq};
 ghost use Rattle.command_line.specs.Lines.{Given, IsCommandLine, NoCommandLine, texts};
 ghost use Rattle.command_line.specs.declared.prose.Command.TheVariants as the;
@@ -8,12 +8,14 @@ ghost use Rattle.cli.specs.Dispatch.{Answers, AnswersCertified, AnswersCertify, 
 ghost use Rattle.cli.specs.Dispatch.{Does, DoesWith, ExplainsBy, ExplainsCertified, ExplainsRecord, ExplainsWhy, IsMisuse, TellsChanges, TellsMisuse, TellsRefusal, asks_all, asks_runc};
 ghost use Rattle.cli.specs.Statuses.{AreRight, AreRightBehind, HasRun};
 ghost use Rattle.cli.specs.Stop.{MayAdvise, ReportsOn, status_of};
+ghost use Rattle.cli.specs.declared.stops.Stop.TheVariants.{Refused};
 ghost use Rattle.cli.specs.inner.Telling.{TellsOn, told_in};
 
 use crate::adapting::{Both, adapted};
 use crate::all::certify_all;
 use crate::all_behind::certify_all_behind;
 use crate::behind::certify_behind;
+use crate::combining::{combined, stacked};
 use crate::comparing;
 use crate::explaining::explain;
 use crate::files::{Files, read_bundle, read_bundles, read_certificate, read_filter, read_record};
@@ -24,13 +26,14 @@ use crate::recovering::recovered;
 use crate::run::run_bundles;
 use crate::showing::{annotated, drawn, read_out, rules};
 use crate::stops::{Stop, report};
-use crate::telling::{assembled, compared, filters_compared, linted, record, tell};
+use crate::telling::{assembled, compared, filters_compared, linted, record, reviewed, tell};
 use crate::tuning::filter_for_counts;
 use call_tables::Arch;
 use command_line::{Command, advice, read_arguments};
 use maker::{check_line, export_bundle, verdict_line};
 use std::alloc::Global;
 use texts::{Sink, Source, write_all};
+use together::Way;
 
 // Answers a filter to a record.
 fn verdict<'a, F: Files, O: Sink>(
@@ -119,6 +122,13 @@ fn run<'a, F: Files, I: Source, O: Sink>(
     run_bundles(alloc, native, &texts, input, out)
 }
 
+// Whether an answer was written.
+fn is_told(outcome: &Result<bool, Stop<'_>>) -> bool
+    ensures { result ≡ true → OnErr outcome.now (outcome.now ≡ Err Refused) }
+{
+    matches!(outcome, Ok(_) | Err(Stop::Refused))
+}
+
 // Writes a bundle that was made, or why there is none, and tells on standard error what was changed or added.
 fn tell_both<'a, O: Sink, E: Sink>(
     both: Result<Both, Stop<'a>>,
@@ -126,12 +136,12 @@ fn tell_both<'a, O: Sink, E: Sink>(
     err: &mut E,
 ) -> Result<bool, Stop<'a>>
     ensures told { TellsOn O.held O.failures out.old out.new (told_in both.entry) result }
-    ensures stopped { OnErr result (err.new ≡ err.old) }
+    ensures stopped { OnErr result ((result ≡ Err Refused) ⊎ (err.new ≡ err.old)) }
 {
     match both {
         Ok(Both { told, changes }) => {
             let result = tell(Ok(told), out);
-            if result.is_ok() {
+            if is_told(&result) {
                 let _ = write_all(changes.as_bytes(), err);
             }
             result
@@ -220,9 +230,10 @@ fn obey<'a, F: Files, I: Source, O: Sink, E: Sink>(
     ensures does { DoesWith I.left I.failures O.held O.failures (F.folder files.old) input.old input.new out.old out.new
         command (read parts.entry) result }
     // Nothing is told on standard error but of a filter that is convicted, of a stub, and of what was changed.
-    ensures stopped { OnErr result (err.new ≡ err.old) }
+    ensures stopped { OnErr result ((result ≡ Err Refused) ⊎ (err.new ≡ err.old)) }
     ensures quiet { result ≡ Ok true → TellsChanges command (read parts.entry) ⊎ (err.new ≡ err.old) }
-    ensures refused { result ≡ Ok false → TellsRefusal command (read parts.entry) ⊎ (err.new ≡ err.old) }
+    ensures no { result ≡ Ok false → TellsRefusal command (read parts.entry) ⊎ (err.new ≡ err.old) }
+    ensures refused { result ≡ Err Refused → TellsRefusal command (read parts.entry) ⊎ (err.new ≡ err.old) }
     // Of a filter that is convicted the record is explained that was told.
     ensures explained { ExplainsBy O.held O.failures E.held E.failures (F.folder files.old) out.old out.new err.old err.new
         command (read parts.entry) result }
@@ -283,6 +294,22 @@ fn obey<'a, F: Files, I: Source, O: Sink, E: Sink>(
                 err,
             )
         }
+        Command::Join => {
+            tell_both(
+                combined(alloc, native, Way::Laxest, parts.from_two, files),
+                out,
+                err,
+            )
+        }
+        Command::Meet => {
+            tell_both(
+                combined(alloc, native, Way::Strictest, parts.from_two, files),
+                out,
+                err,
+            )
+        }
+        Command::Stack => tell_both(stacked(alloc, native, parts.from_two, files), out, err),
+        Command::Review => tell(reviewed(alloc, native, parts.two, files), out),
         Command::Manual => tell(manual(alloc, parts.first), out),
         Command::Version => tell(version(alloc), out),
     }
@@ -299,10 +326,12 @@ fn carry_out<'a, F: Files, I: Source, O: Sink, E: Sink>(
 ) -> Result<bool, Stop<'a>>
     ensures does { (command : Given) → IsCommandLine arguments.entry.now command
         → Does I.left I.failures O.held O.failures (F.folder files.old) input.old input.new out.old out.new command result }
-    ensures stopped { OnErr result (err.new ≡ err.old) }
+    ensures stopped { OnErr result ((result ≡ Err Refused) ⊎ (err.new ≡ err.old)) }
     ensures quiet { (command : Given) → IsCommandLine arguments.entry.now command → result ≡ Ok true
         → TellsChanges command.0 (parts_of command.1) ⊎ (err.new ≡ err.old) }
-    ensures refused { (command : Given) → IsCommandLine arguments.entry.now command → result ≡ Ok false
+    ensures no { (command : Given) → IsCommandLine arguments.entry.now command → result ≡ Ok false
+        → TellsRefusal command.0 (parts_of command.1) ⊎ (err.new ≡ err.old) }
+    ensures refused { (command : Given) → IsCommandLine arguments.entry.now command → result ≡ Err Refused
         → TellsRefusal command.0 (parts_of command.1) ⊎ (err.new ≡ err.old) }
     ensures explained { (command : Given) → IsCommandLine arguments.entry.now command
         → ExplainsWhy O.held O.failures E.held E.failures (F.folder files.old) out.old out.new err.old err.new command.0 (parts_of command.1) result }
@@ -347,8 +376,28 @@ fn report_on<E: Sink>(alloc: Global, arguments: &[&str], stop: &Stop<'_>, err: &
     status
 }
 
-/// Runs the program on the arguments after its name, and gives the exit status: 0 done, 1 refused, 2 a fault of the
-/// command line, 3 a file, a stream or memory that failed.
+// Whether what was given is refused, as the answer says.
+fn is_refused(stop: &Stop<'_>) -> bool
+    ensures yes { result ≡ true → stop.now ≡ Refused }
+    ensures no { result ≡ false → stop.now ≢ Refused }
+{
+    matches!(stop, Stop::Refused)
+}
+
+// The exit status where the program stops, and the line that says why, unless the answer says it.
+fn status_on<E: Sink>(alloc: Global, arguments: &[&str], stop: &Stop<'_>, err: &mut E) -> u8
+    ensures status { result ≡ status_of stop.now }
+    ensures quiet { stop.now ≡ Refused → err.new ≡ err.old }
+    ensures lines { stop.now ≢ Refused → ReportsOn E.held E.failures err.old err.new (texts arguments.now) stop.now }
+{
+    if is_refused(stop) {
+        return stop.status();
+    }
+    report_on(alloc, arguments, stop, err)
+}
+
+/// Runs the program on the arguments after its name, and gives the exit status: 0 done, 1 no, 2 a fault of the command line, 3 a file,
+/// a stream or memory that failed, 4 what was given cannot be read.
 pub fn dispatch<F: Files, I: Source, O: Sink, E: Sink>(
     alloc: Global,
     arguments: &[&str],
@@ -357,7 +406,7 @@ pub fn dispatch<F: Files, I: Source, O: Sink, E: Sink>(
     out: &mut O,
     err: &mut E,
 ) -> u8
-    ensures status { result ≤ 3 }
+    ensures status { result ≤ 4 }
     // Arguments that are a command are carried out, on the bytes of the files that they name.
     ensures answers { (command : Given) → IsCommandLine arguments.entry.now command
         → Answers I.left I.failures O.held O.failures E.held E.failures (F.folder files.old) input.old input.new out.old out.new
@@ -386,6 +435,6 @@ pub fn dispatch<F: Files, I: Source, O: Sink, E: Sink>(
     match carry_out(alloc, arguments, files, input, out, err) {
         Ok(true) => 0,
         Ok(false) => 1,
-        Err(stop) => report_on(alloc, arguments, &stop, err),
+        Err(stop) => status_on(alloc, arguments, &stop, err),
     }
 }

@@ -24,18 +24,21 @@ pub enum Stop<'a> {
     Write(u64),
     /// There is not enough memory.
     OutOfMemory,
+    /// What was given cannot be read. The answer says so, so no line is written.
+    Refused,
 }
 
 impl Stop<'_> {
     ghost use Rattle.std.specs.Prelude.{◌≡◌};
     ghost use Rattle.cli.specs.Stop.{status_of};
 
-    /// The exit status: 2 for a fault of the command line, 3 for any other.
+    /// The exit status: 2 for a fault of the command line, 4 if what was given cannot be read, 3 for any other.
     pub fn status(&self) -> u8
         ensures { result ≡ status_of self.now }
     {
         match self {
             Stop::Usage => 2,
+            Stop::Refused => 4,
             _ => 3,
         }
     }
@@ -54,6 +57,7 @@ impl fmt::Display for Stop<'_> {
             Stop::Read(line) => write!(f, "ccell: read failed at line {line}"),
             Stop::Write(out) => write!(f, "ccell: write failed after {out} bytes"),
             Stop::OutOfMemory => write!(f, "ccell: out of memory"),
+            Stop::Refused => write!(f, "ccell: refused"),
         }
     }
 }
@@ -176,6 +180,7 @@ fn tell<E: Sink>(stop: &Stop<'_>, err: &mut E) -> Result<(), WriteFault>
         Stop::Read(at) => write_all(line_of_read(*at).as_slice(), err),
         Stop::Write(out) => write_all(line_of_write(*out).as_slice(), err),
         Stop::OutOfMemory => write_all(b"ccell: out of memory\n", err),
+        Stop::Refused => write_all(b"ccell: refused\n", err),
     }
 }
 

@@ -1,8 +1,10 @@
 //! Commands that tell: what the library tells of arguments and of files, and how it is written.
-ghost use Rattle.std.specs.Prelude.{IfOk, Option, [], ◌∷◌, map};
+ghost use Rattle.std.specs.Prelude.{IfOk, Option, [], ◌∷◌, ◌≡◌, map};
 ghost use Rattle.compare.specs.Told.{IsCompared};
 ghost use Rattle.compare.specs.FiltersTold.{IsTold};
 ghost use Rattle.explain.specs.Told.{IsAssembled, IsRecorded};
+ghost use Rattle.review.specs.Reviewed.{IsReviewed};
+ghost use Rattle.cli.specs.Dispatch as spec;
 ghost use Rattle.cli.specs.Read.{TellsLinted};
 ghost use Rattle.cli.specs.Files.{Folder};
 ghost use Rattle.cli.specs.Told.{OfArguments, OfBundle, OfBundles, of_none, of_one, of_two};
@@ -15,13 +17,40 @@ use std::alloc::{AllocError, Global};
 use texts::{Sink, write_all};
 use wording::Told;
 
+// Whether what was given could not be read, as the first words of an answer say.
+fn is_refusal(bytes: &[u8]) -> bool
+    ensures { result ≡ spec.is_refusal bytes.now }
+{
+    bytes.starts_with(b"refused profile ")
+        || bytes.starts_with(b"refused view ")
+        || bytes.starts_with(b"refused kernel ")
+        || bytes.starts_with(b"refused listing ")
+        || bytes.starts_with(b"refused call")
+        || bytes.starts_with(b"refused log ")
+        || bytes.starts_with(b"refused lines")
+        || bytes.starts_with(b"refused counts ")
+}
+
+// How a command ends that told whether it was done.
+fn outcome_of<'a>(told: &Told) -> Result<bool, Stop<'a>>
+    ensures { result ≡ spec.outcome_of told.now }
+{
+    if told.done {
+        return Ok(true);
+    }
+    if is_refusal(&told.bytes) {
+        return Err(Stop::Refused);
+    }
+    Ok(false)
+}
+
 /// Writes what is told.
 pub(crate) fn tell<'a, O: Sink>(told: Result<Told, Stop<'a>>, out: &mut O) -> Result<bool, Stop<'a>>
     ensures { TellsOn O.held O.failures out.old out.new told.entry result }
 {
     match told {
         Ok(told) => match write_all(&told.bytes, out) {
-            Ok(()) => Ok(told.done),
+            Ok(()) => outcome_of(&told),
             Err(fault) => Err(Stop::from(fault)),
         },
         Err(stop) => Err(stop),
@@ -74,6 +103,24 @@ pub(crate) fn linted<'a, F: Files>(
 {
     match read_bundle(alloc, native, files, bundle) {
         Ok(text) => match linted_text(alloc, native, &text) {
+            Ok(told) => Ok(told),
+            Err(_no_memory) => Err(Stop::OutOfMemory),
+        },
+        Err(stop) => Err(stop),
+    }
+}
+
+/// What a bundle leaves open of the calls by which a kernel is attacked most.
+pub(crate) fn reviewed<'a, F: Files>(
+    alloc: Global,
+    native: Arch,
+    bundle: &'a str,
+    files: &mut F,
+) -> Result<Told, Stop<'a>>
+    ensures { IsToldOf (F.folder files.old) (bundle.entry.now ∷ []) (of_one (OfBundle native (IsReviewed native))) result }
+{
+    match read_bundle(alloc, native, files, bundle) {
+        Ok(text) => match review::review(alloc, native, &text) {
             Ok(told) => Ok(told),
             Err(_no_memory) => Err(Stop::OutOfMemory),
         },

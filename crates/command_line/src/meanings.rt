@@ -13,6 +13,7 @@ pub enum Meaning {
     Compared,
     ReadAs,
     Filter,
+    Filters,
     ShownAs,
     WrittenAs,
     Certified,
@@ -49,6 +50,9 @@ impl Meaning {
                 "the profile is written as a line for each rule, for another program\n[possible values: rules]"
             }
             Meaning::Filter => { "a file with instructions of eight bytes" }
+            Meaning::Filters => {
+                "files with instructions of eight bytes, the oldest filter first"
+            }
             Meaning::ShownAs => {
                 "what is shown in place of the listing is what the filter costs the calls of the machine\n[possible values: cost]"
             }

@@ -23,6 +23,10 @@ pub enum Command {
     Draw,
     Recover,
     Tune,
+    Join,
+    Meet,
+    Stack,
+    Review,
     Manual,
     Version,
 }
@@ -77,7 +81,7 @@ conditions hold.
 CALL any: what the bundle says of the call whatever its arguments.
 record HEX: the call of the 128 digits that certify reports.
 audit: the lines that a kernel logs of filters (type=1326), read from standard input.
-Status 0, or 1 and a line that begins with 'refused'. With linux-.. a second line says which word
+Status 0, or 4 and a line that begins with 'refused'. With linux-.. a second line says which word
 is wrong.
 
 Example: ccell explain x86-64 web.json write 1 0 0x100000000
@@ -88,7 +92,7 @@ const READ: &str =
 a bundle that is refused it reports why and, in a second line, the place.
 With rules, it writes the profile as a program reads it: the machines, the default verdict, and a
 line for each rule, with numbers in place of names.
-Status 0, or 1 and a line that begins with 'refused'.
+Status 0, 1 for an edition that is not read, or 4 and a line that begins with 'refused'.
 
 Example: ccell read linux-x86-64 web.json
 ";
@@ -98,7 +102,7 @@ const LINT: &str =
 read are 0: with the entry, both values, and the records. No such call is left out; one with too
 many combinations is undecided, and named. Remarks follow, on conditions that mean little, and on
 members that are not read.
-Status 0 if no call gets past and each member is read, or 1.
+Status 0 if no call gets past and each member is read, 4 if the bundle is refused, or 1.
 
 Example: ccell lint linux-x86-64 web.json
 ";
@@ -107,7 +111,7 @@ const COMPARE: &str =
     "Reports all calls that the two answer unlike, a line for each and each direction, and last what is
 proved: same, allows no more, allows no less, or allows more and less. A call with more than
 1,048,576 combinations of answers is undecided, and named.
-Status 0 for same, or 1. With atmost, status 0 if the new bundle allows no more, or 1.
+Status 0 for same, 4 if a bundle is refused, or 1. With atmost, status 0 if the new bundle allows no more.
 filters: OLD and NEW are filters. A line stands for each call that is found of which they answer
 unlike verdicts. Status 0 if their bytes are the same, or 1.
 
@@ -124,7 +128,7 @@ log: log what would be refused.
 for docker|podman|containerd: work out an engine's own profile.
 cap CAP.. or cap all, and kernel 6.12: the capabilities and the kernel that it is worked out for.
 bundle, as the last word: write a bundle, a config.json with the section in it.
-Status 0, or 1 and the reason on standard error, or a line that begins with 'refused'.
+Status 0, 1 and the reason on standard error, or 4 and a line that begins with 'refused'.
 
 Example: ccell adapt linux-x86-64 config.json first > web.json
 ";
@@ -136,7 +140,7 @@ keep CALL:ARG[,ARG]: compare these arguments with the values seen; once for each
 for crun|runc|bwrap|docker|podman: add the calls that a runtime makes behind the load.
 else errno|enosys|log|kill: the answer to all other calls.
 bundle, as the last word: write a bundle, a config.json with the section in it.
-Status 0, or 1 and a line that begins with 'refused'.
+Status 0, or 4 and a line that begins with 'refused'.
 
 Example: ccell learn linux-x86-64 web.log for crun > web.json
 ";
@@ -144,20 +148,20 @@ Example: ccell learn linux-x86-64 web.log for crun > web.json
 const REPLAY: &str =
     "Reports each call of logs that the bundle refuses: why, how often, and where first. With unused
 behind the logs, it reports each entry that no call of the logs matches.
-Status 0 if nothing is refused, or 1.
+Status 0 if no call is refused, 4 if the bundle is, or 1.
 
 Example: ccell replay linux-x86-64 web.json web.log unused
 ";
 
 const RECORD: &str = "Writes the 64 bytes of a call record, as verdict takes it.
-Status 0, or 1 and the line 'refused call'; with linux-.. a second line says which word is wrong.
+Status 0, or 4 and the line 'refused call'; with linux-.. a second line says which word is wrong.
 
 Example: ccell record x86-64 write 1 0 4097 > write.rec
 ";
 
 const ASSEMBLE: &str =
     "Writes the bytes of the filter whose listing the file is, as export writes listings.
-Status 0, or 1 and a line that begins with 'refused listing'.
+Status 0, or 4 and a line that begins with 'refused listing'.
 
 Example: ccell assemble web.listing > web.bpf
 ";
@@ -166,7 +170,7 @@ const ANNOTATE: &str =
     "Shows each instruction with its position, where jumps lead, and the names of calls, arguments and
 actions. An L stands before a position that jumps lead to. With cost it shows what the filter costs a
 call: which calls Linux answers without running it, and how many instructions the others run.
-Status 0, or 1 if the kernel refuses the filter, with the cause in the last line.
+Status 0, 1 if the kernel refuses the filter, with the cause in the last line, or 4 if it is no program.
 
 Example: ccell annotate linux-x86-64 web.bpf
 ";
@@ -175,7 +179,7 @@ const DRAW: &str =
     "Shows a filter as a graph in the language of Graphviz: a node is a block of instructions, with the
 names that annotate shows, and coloured by its action; an edge leads to the next block, by the
 outcome of the test.
-Status 0, or 1 if the kernel refuses the filter, with the cause in the last line.
+Status 0, 1 if the kernel refuses the filter, with the cause in the last line, or 4 if it is no program.
 
 Example: ccell draw linux-x86-64 web.bpf | dot -Tsvg > web.svg
 ";
@@ -193,9 +197,44 @@ const TUNE: &str =
 the file counts them, it runs the fewest instructions that are found, and is at most a tenth longer. The
 checker has answered yes. Calls that Linux answers without running a filter count as none. Standard
 error reports the instructions a call before and after.
-Status 0, or 1 and a line that begins with 'refused'.
+Status 0, 4 if the bundle or the counts are refused, or 1 and a line that begins with 'refused'.
 
 Example: ccell tune linux-x86-64 web.json web.counts > web.bpf
+";
+
+const JOIN: &str =
+    "Writes the section of a profile that gives each call the laxest of the answers that the bundles give
+it: what one of them allows is allowed. With bundle as the last word it writes the config.json of runc
+and crun.
+Status 0, 1 if no section says so, with a call that shows why, or 4 if a bundle is refused.
+
+Example: ccell join linux-x86-64 monday.json tuesday.json > both.json
+";
+
+const MEET: &str =
+    "Writes the section of a profile that gives each call the strictest of the answers that the bundles
+give it: only what all of them allow is allowed. Of equally strict answers the last bundle's counts. With
+bundle as the last word it writes the config.json of runc and crun.
+Status 0, 1 if no section says so, with a call that shows why, or 4 if a bundle is refused.
+
+Example: ccell meet linux-x86-64 docker.json own.json > strict.json
+";
+
+const STACK: &str =
+    "Writes the section of a profile that gives each call the answer of several filters, which were loaded
+in this order: the strictest counts, and of equally strict ones the newest filter's. With bundle as the
+last word it writes the config.json of runc and crun.
+Status 0, or 1 if no section says so, with a call that shows why.
+
+Example: ccell stack linux-x86-64 first.bpf second.bpf > process.json
+";
+
+const REVIEW: &str =
+    "Reports what a bundle leaves open of the calls by which a kernel is attacked most, group by group.
+Of each call it is decided for all arguments whether the bundle lets it through.
+Status 0, or 4 if the bundle is refused.
+
+Example: ccell review linux-x86-64 web.json
 ";
 
 const MANUAL: &str = "Reports how a command is used, or which commands there are.
@@ -235,6 +274,10 @@ impl Command {
             Command::Draw => DRAW,
             Command::Recover => RECOVER,
             Command::Tune => TUNE,
+            Command::Join => JOIN,
+            Command::Meet => MEET,
+            Command::Stack => STACK,
+            Command::Review => REVIEW,
             Command::Manual => MANUAL,
             Command::Version => VERSION,
         }

@@ -35,6 +35,8 @@ const READ_AS: Part = ("WORD", Meaning::ReadAs);
 
 const FILTER: Part = ("FILTER", Meaning::Filter);
 
+const FILTERS: Part = ("FILTER", Meaning::Filters);
+
 const SHOWN_AS: Part = ("WORD", Meaning::ShownAs);
 
 const WRITTEN_AS: Part = ("WORD", Meaning::WrittenAs);
@@ -194,6 +196,34 @@ pub const COMMANDS: &[Entry] = &[
         &[MACHINE, BUNDLE, COUNTS],
         "a checked filter for a bundle, by how often its calls are made",
         Command::Tune,
+    ),
+    (
+        "join",
+        (3, MANY),
+        &[MACHINE, BUNDLES],
+        "a profile that allows what one of several allows",
+        Command::Join,
+    ),
+    (
+        "meet",
+        (3, MANY),
+        &[MACHINE, BUNDLES],
+        "a profile that allows only what all of several allow",
+        Command::Meet,
+    ),
+    (
+        "stack",
+        (2, MANY),
+        &[MACHINE, FILTERS],
+        "the profile that several filters mean, which are loaded together",
+        Command::Stack,
+    ),
+    (
+        "review",
+        (2, 2),
+        &[MACHINE, BUNDLE],
+        "what a bundle leaves open of the calls by which a kernel is attacked most",
+        Command::Review,
     ),
     (
         "manual",

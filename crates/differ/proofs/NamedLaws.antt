@@ -58,7 +58,7 @@ all_covered_stay named old new token stay c = record {
 -- ---- numbers of one kind
 
 -- no bound of a machine's numbers lies between them
-record AreOfKind (n m : ℕ) : Type 0 where
+pub record AreOfKind (n m : ℕ) : Type 0 where
   from_0 : nat_le 0 n ≡ nat_le 0 m
   to_low : nat_le n 0x3fffffff ≡ nat_le m 0x3fffffff
   from_high : nat_le 0x40000000 n ≡ nat_le 0x40000000 m
@@ -72,7 +72,7 @@ both_le a b c d x y = le-leb a b x ∙ sym (le-leb c d y)
 both_gt : (a b c d : ℕ) → b < a → d < c → nat_le a b ≡ nat_le c d
 both_gt a b c d x y = lt-leb a b x ∙ sym (lt-leb c d y)
 
-kind_low : (n m : ℕ) → IsWithin n low_numbers → IsWithin m low_numbers → AreOfKind n m
+pub kind_low : (n m : ℕ) → IsWithin n low_numbers → IsWithin m low_numbers → AreOfKind n m
 kind_low n m a b =
     let n_le : n ≤ 0x3fffffff = a.1 in
     let m_le : m ≤ 0x3fffffff = b.1 in
@@ -85,7 +85,7 @@ kind_low n m a b =
       to_last = both_le n 0xffffffff m 0xffffffff (omega arith) (omega arith);
     }
 
-kind_high : (n m : ℕ) → IsWithin n high_numbers → IsWithin m high_numbers → AreOfKind n m
+pub kind_high : (n m : ℕ) → IsWithin n high_numbers → IsWithin m high_numbers → AreOfKind n m
 kind_high n m a b =
     let n_ge : 0x40000000 ≤ n = a.0 in
     let m_ge : 0x40000000 ≤ m = b.0 in
@@ -100,7 +100,7 @@ kind_high n m a b =
       to_last = both_le n 0xffffffff m 0xffffffff (omega arith) (omega arith);
     }
 
-kind_last : (n m : ℕ) → IsWithin n last_number → IsWithin m last_number → AreOfKind n m
+pub kind_last : (n m : ℕ) → IsWithin n last_number → IsWithin m last_number → AreOfKind n m
 kind_last n m a b =
     let n_ge : 0xffffffff ≤ n = a.0 in
     let m_ge : 0xffffffff ≤ m = b.0 in
@@ -127,7 +127,7 @@ own_same n m k LinuxRiscv64 = rw (k.from_0, k.to_last) refl
 own_same n m k LinuxPpc64le = rw (k.from_0, k.to_last) refl
 own_same n m k LinuxLoongarch64 = rw (k.from_0, k.to_last) refl
 
-native_same : (token n m : ℕ) → AreOfKind n m → (machines : List Arch) → list_any (has_call token n) machines ≡ list_any (has_call token m) machines
+pub native_same : (token n m : ℕ) → AreOfKind n m → (machines : List Arch) → list_any (has_call token n) machines ≡ list_any (has_call token m) machines
 native_same token n m k [] = refl
 native_same token n m k (arch ∷ machines) =
     ap (λ b. ((token_of arch == token) && b) || list_any (has_call token n) machines) (own_same n m k arch)
@@ -179,7 +179,7 @@ below_zeros (suc (suc (suc (suc zero)))) = omega arith
 below_zeros (suc (suc (suc (suc (suc zero))))) = omega arith
 below_zeros (suc (suc (suc (suc (suc (suc i)))))) = omega arith
 
-sample_of : (token nr : ℕ) → token < 2 ^ 32 → nr < 2 ^ 32 → IsOfCall token nr (words_from nr token 0 (0 ∷ 0 ∷ 0 ∷ 0 ∷ 0 ∷ 0 ∷ []))
+pub sample_of : (token nr : ℕ) → token < 2 ^ 32 → nr < 2 ^ 32 → IsOfCall token nr (words_from nr token 0 (0 ∷ 0 ∷ 0 ∷ 0 ∷ 0 ∷ 0 ∷ []))
 sample_of token nr t n = record {
   is_record = words_from-is_record nr token 0 (0 ∷ 0 ∷ 0 ∷ 0 ∷ 0 ∷ 0 ∷ []) n t (omega arith) refl below_zeros;
   machine = refl;
@@ -221,12 +221,12 @@ by_token p q named rest direction token n r l like fits small unnamed covered of
     ]
 
 -- no machine has the token
-no_machine : (token n : ℕ) → ((arch : Arch) → token ≢ token_of arch) → (arch : Arch) → has_call token n arch ≡ false
+pub no_machine : (token n : ℕ) → ((arch : Arch) → token ≢ token_of arch) → (arch : Arch) → has_call token n arch ≡ false
 no_machine token n other arch =
     ap (λ t. t && list_any (is_within n) (own_numbers arch)) (ne_eqb (token_of arch) token (λ e. other arch (sym e)))
 
 -- none of these tokens
-no_token : (token : ℕ) → token ≢ x86_64_token → token ≢ x86_token → token ≢ aarch64_token → token ≢ arm_token → token ≢ riscv64_token
+pub no_token : (token : ℕ) → token ≢ x86_64_token → token ≢ x86_token → token ≢ aarch64_token → token ≢ arm_token → token ≢ riscv64_token
     → token ≢ ppc64le_token → token ≢ loongarch64_token → (arch : Arch) → token ≢ token_of arch
 no_token token a b c d e f g X86_64 = a
 no_token token a b c d e f g Aarch64 = c
@@ -239,7 +239,7 @@ no_token token a b c d e f g LinuxRiscv64 = e
 no_token token a b c d e f g LinuxPpc64le = f
 no_token token a b c d e f g LinuxLoongarch64 = g
 
-none_native : (token n : ℕ) → ((arch : Arch) → has_call token n arch ≡ false) → (machines : List Arch) → list_any (has_call token n) machines ≡ false
+pub none_native : (token n : ℕ) → ((arch : Arch) → has_call token n arch ≡ false) → (machines : List Arch) → list_any (has_call token n) machines ≡ false
 none_native token n h [] = refl
 none_native token n h (arch ∷ machines) = ap (λ b. b || list_any (has_call token n) machines) (h arch) ∙ none_native token n h machines
 
@@ -248,7 +248,7 @@ never_unlike Any = refl
 never_unlike More = refl
 never_unlike Less = refl
 
-said_foreign : (p : Policy) (token n : ℕ) (r : List ℕ) → IsOfCall token n r → list_any (has_call token n) p.machines ≡ false → said p r ≡ 0
+pub said_foreign : (p : Policy) (token n : ℕ) (r : List ℕ) → IsOfCall token n r → list_any (has_call token n) p.machines ≡ false → said p r ≡ 0
 said_foreign p token n r of none = ap (λ b. said_by p b (find (λ rule. matches rule r) p.rules)) (native_is p token n r of ∙ none)
 
 by_none : (p q : Policy) (direction : Direction) (token n : ℕ) (r : List ℕ) → IsClear p.rules → IsClear q.rules → IsOfCall token n r

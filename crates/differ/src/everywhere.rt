@@ -12,7 +12,7 @@ use profile::Profile;
 use std::alloc::{AllocError, Global};
 
 /// Calls for the numbers that are not named.
-pub(crate) fn rest_of(alloc: Global, named: &[Call]) -> Result<Vec<Call>, AllocError>
+pub fn rest_of(alloc: Global, named: &[Call]) -> Result<Vec<Call>, AllocError>
     ensures x86_64 { IfOk result (λ rest. AreCovered named.now rest.items x86_64_token) }
     ensures x86 { IfOk result (λ rest. AreCovered named.now rest.items x86_token) }
     ensures aarch64 { IfOk result (λ rest. AreCovered named.now rest.items aarch64_token) }

@@ -42,7 +42,7 @@ fn add(list: &mut Vec<Call>, token: u32, nr: u32) -> Result<(), AllocError>
 }
 
 /// Names the calls of rules.
-pub(crate) fn add_rules(rules: &[Rule], list: &mut Vec<Call>) -> Result<(), AllocError>
+pub fn add_rules(rules: &[Rule], list: &mut Vec<Call>) -> Result<(), AllocError>
     ensures added { (t n : ℕ) → list_any (is_for t n) rules.now ≡ true → IfOk result (λ _. is_named list.new.items t n ≡ true) }
     ensures stay { (t n : ℕ) → is_named list.old.items t n ≡ true → IfOk result (λ _. is_named list.new.items t n ≡ true) }
 {

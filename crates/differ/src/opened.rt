@@ -20,8 +20,13 @@ fn is_for(rule: &Rule, token: u32, nr: u32) -> bool
     token == rule.arch.token() && nr == rule.nr
 }
 
-// The rules for a call.
-fn rules_for(alloc: Global, rules: &[Rule], token: u32, nr: u32) -> Result<Vec<Rule>, AllocError>
+/// The rules for a call.
+pub fn rules_for(
+    alloc: Global,
+    rules: &[Rule],
+    token: u32,
+    nr: u32,
+) -> Result<Vec<Rule>, AllocError>
     ensures { IfOk result (λ list. list.items ≡ rules_for token nr rules.now) }
 {
     let mut list = Vec::new(alloc);
@@ -117,8 +122,8 @@ fn add_rule(rule: &Rule, index: usize, list: &mut Vec<Cond>) -> Result<(), Alloc
     Ok(())
 }
 
-// Adds the conditions of rules on an argument.
-fn add_rules(rules: &[Rule], index: usize, list: &mut Vec<Cond>) -> Result<(), AllocError>
+/// Adds the conditions of rules on an argument.
+pub fn add_rules(rules: &[Rule], index: usize, list: &mut Vec<Cond>) -> Result<(), AllocError>
     ensures { IfOk result (λ _. list.new.items ≡ list.old.items ++ conditions_on index rules.now) }
 {
     for rule in rules {

@@ -15,7 +15,7 @@ use profile::Profile;
 use std::alloc::Global;
 
 /// How many bits are compared of an argument.
-pub(crate) fn bits_of(token: u32) -> u32
+pub fn bits_of(token: u32) -> u32
     ensures is { result ≡ bits_of token }
     ensures few { result ≤ 64 }
 {

@@ -71,6 +71,6 @@ IsAssembled text told = RefusesBytes text told ⊎ (RefusesListing text told ⊎
 -- the edition of the program, what it reads, and with what it was proved
 abbrev pub IsVersion : Told → Type 0
 IsVersion told =
-    TellsText (codes "ccell 0.1.0\nreads OCI Runtime Specification 1.0.2 and 1.1.0; "
-    ++ codes "calls of Linux 7.3 on x86-64, x86, x32, AArch64 and ARM\n"
+    TellsText (codes "ccell 0.1.0\nreads OCI Runtime Specification 1.0.2, 1.1.0, 1.2.0 and 1.2.1\n"
+    ++ codes "calls of Linux 7.3 on x86-64, x86, x32, AArch64, ARM, riscv64, ppc64le and loongarch64\n"
     ++ codes "proved and built with rattle-kit-13f logic dac8208d650f15bf; docs/PROMISES.md says what is proved\n") told

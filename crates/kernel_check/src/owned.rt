@@ -8,7 +8,7 @@ use std::alloc::{AllocError, Global};
 use std::marker::Model;
 
 /// An accepted program that owns its bytes. Clauses see its instructions.
-#[derive(Debug, Drop)]
+#[derive(Drop)]
 pub struct AcceptedBuf {
     bytes: Vec<u8>,
 }

@@ -1,5 +1,6 @@
 pub mod Lists
 pub mod PartsLemmas
+pub mod RulesSteps
 pub mod reading
 pub mod clashing
 pub mod unbroken

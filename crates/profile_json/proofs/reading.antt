@@ -1,4 +1,5 @@
 pub mod Steps
+pub mod EachSteps
 pub mod RootLaws
 pub mod ActionLaws
 pub mod KeyLaws

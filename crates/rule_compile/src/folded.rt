@@ -3,7 +3,7 @@
 //! Where x86-64 and x32 are both listed, most calls have the same number on both, but for one bit, and most are decided alike.
 //! So the number without that bit is searched for, and the bit is asked for only where the two are decided unlike.
 
-use crate::ranges::{Leaf, Range, Ranges};
+use crate::ranges::{Leaf, Range, Ranges, range_at};
 use std::alloc::{AllocError, Global};
 
 /// The bit that the numbers of x32 have and those of x86-64 have not.
@@ -29,12 +29,6 @@ pub(crate) struct Folded {
     pub(crate) ranges: Ranges,
     pub(crate) pairs: Vec<Pair>,
     written: usize,
-}
-
-// The range that has a number.
-fn range_at(ranges: &[Range], number: u32) -> Option<Range> {
-    let place = ranges.partition_point(|range| range.last < number);
-    ranges.get(place).copied()
 }
 
 impl Folded {

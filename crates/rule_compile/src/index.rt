@@ -24,6 +24,15 @@ pub(crate) struct Index {
     blocks: Vec<Shelved>,
 }
 
+// Puts a block on the shelf of a key as the last one, and answers which was the last one before.
+fn put_last(shelves: &mut [Option<usize>], key: u32, block: Option<usize>) -> Option<usize> {
+    let shelf = (key as usize).checked_rem(shelves.len())?;
+    let last = shelves.get_mut(shelf)?;
+    let before = *last;
+    *last = block;
+    before
+}
+
 impl Index {
     /// No blocks.
     pub(crate) fn new(alloc: Global) -> Index {
@@ -55,11 +64,7 @@ impl Index {
     // Twice as many shelves, on which all blocks are put anew.
     fn grow(&mut self, alloc: Global) -> Result<(), AllocError> {
         let count = self.shelves.len().saturating_mul(2).max(SHELVES);
-        let mut shelves = Vec::new(alloc);
-        for _ in 0..count {
-            shelves.push(None)?;
-        }
-        self.shelves = shelves;
+        self.shelves = vec![in alloc; None; count]?;
         for block in 0..self.blocks.len() {
             self.put(block);
         }
@@ -68,15 +73,9 @@ impl Index {
 
     // Puts a block on its shelf, as the last one.
     fn put(&mut self, block: usize) {
-        let Some(shelved) = self.blocks.get(block) else {
-            return;
-        };
-        let key = shelved.key;
-        let before = self.last(key);
         if let Some(shelved) = self.blocks.get_mut(block) {
-            *shelved = Shelved { key, before };
+            shelved.before = put_last(&mut self.shelves, shelved.key, Some(block));
         }
-        self.set_last(key, Some(block));
     }
 
     /// So many blocks are taken out, the last one first.
@@ -89,26 +88,17 @@ impl Index {
     // The last block is taken out.
     fn pop(&mut self) {
         if let Some(block) = self.blocks.pop() {
-            self.set_last(block.key, block.before);
-        }
-    }
-
-    // The shelf of a key.
-    fn shelf(&self, key: u32) -> Option<usize> {
-        (key as usize).checked_rem(self.shelves.len())
-    }
-
-    fn set_last(&mut self, key: u32, block: Option<usize>) {
-        if let Some(shelf) = self.shelf(key)
-            && let Some(last) = self.shelves.get_mut(shelf)
-        {
-            *last = block;
+            put_last(&mut self.shelves, block.key, block.before);
         }
     }
 
     /// The last block on the shelf of a key.
     pub(crate) fn last(&self, key: u32) -> Option<usize> {
-        *self.shelves.get(self.shelf(key)?)?
+        let shelf = (key as usize).checked_rem(self.shelves.len())?;
+        match self.shelves.get(shelf) {
+            Some(last) => *last,
+            None => None,
+        }
     }
 
     /// The block on the shelf of a block that came before it.

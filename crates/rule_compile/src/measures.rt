@@ -69,7 +69,12 @@ fn are_list(rules: &[Open]) -> bool {
         return false;
     };
     let subject = first.question.subject;
-    rules.iter().all(|open| open.begins && open.question.is_equality_of(subject))
+    for open in rules {
+        if !open.begins || !open.question.is_equality_of(subject) {
+            return false;
+        }
+    }
+    true
 }
 
 /// Where rules are parted: at `middle`. A list of numbers is asked for at once, which never takes more ranges.

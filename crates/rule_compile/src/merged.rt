@@ -6,7 +6,7 @@
 
 use crate::outline::Block;
 use crate::question::Subject;
-use crate::ranges::{Leaf, Range};
+use crate::ranges::{Leaf, Range, range_at};
 use std::alloc::{AllocError, Global};
 
 /// A way to go on: at one leaf if bits are a number, and else at the other.
@@ -30,15 +30,6 @@ struct Steps {
 pub(crate) struct Merged {
     pub(crate) subject: Subject,
     pub(crate) ranges: Vec<Range>,
-}
-
-// What decides a number.
-fn leaf_at(ranges: &[Range], number: u32) -> Option<Leaf> {
-    let place = ranges.partition_point(|range| range.last < number);
-    match ranges.get(place) {
-        Some(range) => Some(range.leaf),
-        None => None,
-    }
 }
 
 impl Steps {
@@ -122,15 +113,12 @@ fn add(ranges: &mut Vec<Range>, first: u32, last: u32, leaf: &Leaf) -> Result<()
 
 // The ways of a block that asks for one bit: it is unset, or set.
 fn steps_by_bit(subject: Subject, ranges: &[Range]) -> Steps {
-    let Some(unset) = leaf_at(ranges, 0) else {
-        return Steps::NONE;
-    };
-    let Some(set) = leaf_at(ranges, subject.mask) else {
+    let (Some(unset), Some(set)) = (range_at(ranges, 0), range_at(ranges, subject.mask)) else {
         return Steps::NONE;
     };
     Steps {
-        first: Some(Step::of(subject, 0, &unset, &set)),
-        second: Some(Step::of(subject, subject.mask, &set, &unset)),
+        first: Some(Step::of(subject, 0, &unset.leaf, &set.leaf)),
+        second: Some(Step::of(subject, subject.mask, &set.leaf, &unset.leaf)),
     }
 }
 
@@ -274,43 +262,45 @@ impl Merging {
         let (second, is_second) = joined(second, &self.steps);
         self.steps.push(Steps { first, second })?;
         let found = if is_first { first } else { second };
-        match found {
-            Some(step) if is_first || is_second => {
-                self.changed = true;
-                Ok(Merged {
-                    subject: step.subject,
-                    ranges: step.ranges(alloc)?,
-                })
-            }
-            _ => Ok(Merged {
-                subject: block.subject,
-                ranges: Vec::from_slice(alloc, &block.ranges)?,
-            }),
+        if let Some(step) = found
+            && (is_first || is_second)
+        {
+            self.changed = true;
+            return Ok(Merged {
+                subject: step.subject,
+                ranges: step.ranges(alloc)?,
+            });
         }
+        Ok(Merged {
+            subject: block.subject,
+            ranges: Vec::from_slice(alloc, &block.ranges)?,
+        })
     }
 
-    // Adds what is written of a block, as a search of the whole word if blocks of the same word are behind it.
-    fn add(&mut self, alloc: Global, block: &Block) -> Result<(), AllocError> {
-        let own = self.by_steps(alloc, block)?;
+    // Makes what is written of a block a search of the whole word, if blocks of the same word are behind it. Answers the ranges of
+    // the whole word.
+    fn compose(&mut self, alloc: Global, own: &mut Merged) -> Result<Option<Words>, AllocError> {
         let Some(words) = widened(alloc, own.subject, &own.ranges)? else {
-            self.words.push(None)?;
-            self.merged.push(own)?;
-            return Ok(());
+            return Ok(None);
         };
         let (whole, is_changed) = composed(alloc, &words, &self.words)?;
         if is_changed {
             self.changed = true;
-            self.merged.push(Merged {
-                subject: Subject {
-                    word: whole.word,
-                    mask: u32::MAX,
-                },
-                ranges: Vec::from_slice(alloc, &whole.ranges)?,
-            })?;
-        } else {
-            self.merged.push(own)?;
+            own.subject = Subject {
+                word: whole.word,
+                mask: u32::MAX,
+            };
+            own.ranges = Vec::from_slice(alloc, &whole.ranges)?;
         }
-        self.words.push(Some(whole))?;
+        Ok(Some(whole))
+    }
+
+    // Adds what is written of a block.
+    fn add(&mut self, alloc: Global, block: &Block) -> Result<(), AllocError> {
+        let mut own = self.by_steps(alloc, block)?;
+        let whole = self.compose(alloc, &mut own)?;
+        self.merged.push(own)?;
+        self.words.push(whole)?;
         Ok(())
     }
 }
@@ -369,7 +359,9 @@ pub(crate) fn mark(needed: &mut [bool], ranges: &[Range]) {
 
 /// Marks the blocks that marked ones go on at.
 pub(crate) fn mark_next(needed: &mut [bool], merged: &[Merged]) {
-    for (place, block) in merged.iter().enumerate().rev() {
+    let mut place = merged.len();
+    for block in merged.iter().rev() {
+        place = place.saturating_sub(1);
         if let Some(true) = needed.get(place) {
             mark(needed, &block.ranges);
         }

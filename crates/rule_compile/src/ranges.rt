@@ -107,6 +107,19 @@ impl Range {
     }
 }
 
+/// The place of the range that has a number, of ranges that have all numbers.
+pub(crate) fn place_of(ranges: &[Range], number: u32) -> usize {
+    ranges.partition_point(|range| range.last < number)
+}
+
+/// The range that has a number, of ranges that have all numbers.
+pub(crate) fn range_at(ranges: &[Range], number: u32) -> Option<Range> {
+    match ranges.get(place_of(ranges, number)) {
+        Some(range) => Some(*range),
+        None => None,
+    }
+}
+
 /// How many call numbers there are: they are words of 32 bits.
 const NUMBERS: u64 = 1 << 32;
 

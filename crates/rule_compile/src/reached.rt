@@ -83,14 +83,14 @@ fn moved(reached: &[bool], place: usize, insn: &Insn) -> Insn {
 /// The instructions that a path reaches, if there are others. Nothing is proved of them: who takes them has them checked.
 pub(crate) fn only_reached(alloc: Global, insns: &[Insn]) -> Result<Option<Vec<Insn>>, AllocError> {
     let reached = reached_of(alloc, insns)?;
-    if reached.iter().all(|found| *found) {
-        return Ok(None);
-    }
     let mut all = Vec::new(alloc);
     for (place, insn) in insns.iter().enumerate() {
         if is_reached(&reached, place) {
             all.push(moved(&reached, place, insn))?;
         }
+    }
+    if all.len() == insns.len() {
+        return Ok(None);
     }
     Ok(Some(all))
 }

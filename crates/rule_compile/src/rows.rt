@@ -17,7 +17,7 @@ const ROW: usize = 25;
 const MORE: usize = 2;
 
 /// What a range is in a list.
-#[derive(Clone, Copy, PartialEq, Eq)]
+#[derive(Clone, Copy)]
 enum Kind {
     /// It is decided like the rest.
     Rest,
@@ -51,7 +51,7 @@ fn rest_of(ranges: &[Range]) -> Option<Range> {
 fn longest_row(ranges: &[Range], rest: &Range) -> Option<usize> {
     let mut count = 0usize;
     for range in ranges {
-        if kind_of(range, rest) == Kind::Number {
+        if let Kind::Number = kind_of(range, rest) {
             count = count.saturating_add(1);
         }
     }
@@ -75,8 +75,11 @@ struct Rows {
 impl Rows {
     // Whether a range begins the next row, where a row has so many numbers at most.
     fn is_next(&self, kind: Kind, most: usize) -> bool {
-        let is_apart = kind == Kind::Several || self.last == Kind::Several;
-        is_apart || (kind == Kind::Number && self.count >= most)
+        match (kind, self.last) {
+            (Kind::Several, _) | (_, Kind::Several) => true,
+            (Kind::Number, _) => self.count >= most,
+            (Kind::Rest, _) => false,
+        }
     }
 
     // Adds a range, and answers the level of the cut in front of it: 0, if there is none.
@@ -88,7 +91,7 @@ impl Rows {
             self.before = row;
             self.count = 0;
         }
-        if kind == Kind::Number {
+        if let Kind::Number = kind {
             self.count = self.count.saturating_add(1);
         }
         self.last = kind;

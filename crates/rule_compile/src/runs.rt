@@ -1,6 +1,6 @@
 //! Neighbouring ranges that two lists have in common.
 
-use crate::ranges::{Leaf, Range};
+use crate::ranges::{Leaf, Range, place_of};
 use std::alloc::{AllocError, Global};
 
 /// Neighbouring ranges that two lists have in common: the place of the first one in either, and how many.
@@ -25,19 +25,22 @@ pub(crate) fn longest_run(ones: &[Range], others: &[Range]) -> Run {
     };
     let mut run = longest;
     for (one, range) in ones.iter().enumerate() {
-        let other = others.partition_point(|other| other.first < range.first);
-        run = match others.get(other) {
-            Some(found) if are_same(range, found) && run.count > 0 => Run {
-                count: run.count.saturating_add(1),
-                ..run
-            },
-            Some(found) if are_same(range, found) => Run {
+        let other = place_of(others, range.first);
+        let is_common = match others.get(other) {
+            Some(found) => are_same(range, found),
+            None => false,
+        };
+        if !is_common {
+            run.count = 0;
+        } else if run.count > 0 {
+            run.count = run.count.saturating_add(1);
+        } else {
+            run = Run {
                 one,
                 other,
                 count: 1,
-            },
-            _ => Run { count: 0, ..run },
-        };
+            };
+        }
         if run.count > longest.count {
             longest = run;
         }
@@ -53,7 +56,10 @@ pub(crate) fn replaced(
     end: usize,
     leaf: &Leaf,
 ) -> Result<Vec<Range>, AllocError> {
-    let first = ranges.get(place).map_or(0, |range| range.first);
+    let first = match ranges.get(place) {
+        Some(range) => range.first,
+        None => 0,
+    };
     let mut all = Vec::new(alloc);
     for (at, range) in ranges.iter().enumerate() {
         if at < place || at >= end {

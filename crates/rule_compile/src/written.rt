@@ -15,6 +15,9 @@ pub(crate) struct Written {
 pub(crate) fn height_of(written: &[Written], leaf: Leaf) -> usize {
     match leaf {
         Leaf::Verdict(_) => 0,
-        Leaf::Block(block) => written.get(block).map_or(0, |block| block.height),
+        Leaf::Block(block) => match written.get(block) {
+            Some(block) => block.height,
+            None => 0,
+        },
     }
 }

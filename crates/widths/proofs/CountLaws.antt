@@ -41,7 +41,7 @@ some_parts b c =
 
 -- ---- lists of parts
 
-extended_long : (parts : List Cond) (css : List (List Cond)) → length (extended parts css) ≡ length css * length parts
+pub extended_long : (parts : List Cond) (css : List (List Cond)) → length (extended parts css) ≡ length css * length parts
 extended_long parts [] = sym (zero-mul (length parts))
 extended_long parts (cs ∷ css) =
     let long = length-append (with_each parts cs) (extended parts css) in

@@ -23,14 +23,12 @@ fn put_condition(text: &mut Text, cond: &Cond) {
         datum,
     } = *cond;
     text.separate(", ");
-    text.put("{");
-    text.put(format_args!("\"index\": {index}, \"value\": {value}"));
+    text.put(format_args!("{{\"index\": {index}, \"value\": {value}"));
     if op == Op::MaskedEq {
         text.put(format_args!(", \"valueTwo\": {datum}"));
     }
     let name = name_of(op);
-    text.put(format_args!(", \"op\": \"{name}\""));
-    text.put("}");
+    text.put(format_args!(", \"op\": \"{name}\"}}"));
 }
 
 /// Adds the list of an entry's conditions.

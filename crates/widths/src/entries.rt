@@ -1,9 +1,8 @@
 //! Entries, written in parts where their arguments are cut.
 use crate::conditions::put_conditions;
-use crate::narrowing::{CutError, MOST_PARTS, Plan, conditions, parts};
+use crate::narrowing::{CutError, Plan, conditions};
 use crate::plans::{agree, cuts, lowered, plan_of};
 use crate::text::Text;
-use arrayvec::ArrayVec;
 use call_tables::Arch;
 use profile::{Cond, Rule};
 use profile_json::EntryRules;
@@ -34,6 +33,14 @@ pub(crate) fn put_member(text: &mut Text, object: &Value, key: &str) {
     }
 }
 
+/// The list that a key has, empty where there is none.
+pub(crate) fn list_in<'a>(object: &'a Value, key: &str) -> &'a [Value] {
+    match object.get(key).and_then(Value::as_array) {
+        Some(list) => list.as_slice(),
+        None => &[],
+    }
+}
+
 // Adds the conditions of an entry, each behind a space.
 fn tell_conditions(text: &mut Text, conds: &[Cond]) {
     let mut joined_by = "if";
@@ -47,29 +54,18 @@ fn tell_conditions(text: &mut Text, conds: &[Cond]) {
 // Adds what is read of values that arguments cannot have.
 fn tell_lowered(text: &mut Text, conds: &[Cond], lowers: &[Cond]) {
     let mut joined_by = ", of which";
-    for (cond, lower) in conds.iter().zip(lowers) {
-        if cond != lower {
-            let condition = ConditionText(lower);
+    let mut is_told = false;
+    for place in 0..conds.len().min(lowers.len()) {
+        if conds[place] != lowers[place] {
+            let condition = ConditionText(&lowers[place]);
             text.put(format_args!("{joined_by} {condition}"));
             joined_by = " and";
+            is_told = true;
         }
     }
-    if joined_by == " and" {
+    if is_told {
         text.put(" is read,");
     }
-}
-
-// Whether conditions of a call whose arguments are cut stand for more parts than a bundle may have.
-fn are_too_many(alloc: Global, conds: &[Cond], plan: &Plan) -> Result<bool, AllocError> {
-    let mut count = 1usize;
-    for cond in conds {
-        let own = parts(alloc, cond, plan[cond.index as usize])?;
-        count = count.saturating_mul(own.len());
-        if count > MOST_PARTS {
-            return Ok(true);
-        }
-    }
-    Ok(false)
 }
 
 impl<'a> Entries<'a> {
@@ -95,20 +91,12 @@ impl<'a> Entries<'a> {
     // Adds an entry for one call with these conditions.
     fn put_part(&mut self, entry: &Value, name: &str, conds: &[Cond]) {
         self.begin();
-        self.text.put("{");
-        self.text.put(format_args!("\"names\": [\"{name}\"]"));
+        self.text.put(format_args!("{{\"names\": [\"{name}\"]"));
         put_member(&mut self.text, entry, "action");
         put_member(&mut self.text, entry, "errnoRet");
         self.text.put(", \"args\": ");
         put_conditions(&mut self.text, conds);
         self.text.put("}");
-    }
-
-    // Adds an entry for one call with each of the lists of conditions.
-    fn put_parts(&mut self, entry: &Value, name: &str, lists: &[ArrayVec<Cond, 6>]) {
-        for conds in lists {
-            self.put_part(entry, name, conds.as_slice());
-        }
     }
 
     // Tells why an entry cannot be written.
@@ -117,22 +105,9 @@ impl<'a> Entries<'a> {
         self.changes.put(format_args!("linux.seccomp.syscalls[{at}]: {name}: {why}\n"));
     }
 
-    // Tells that an entry becomes too many for one call.
-    fn refuse_parts(&mut self, at: usize, name: &str) {
-        self.refuse(at, name, "is more parts than a bundle may have");
-    }
-
     // Whether there are more entries than a bundle may have.
     fn is_full(&self) -> bool {
         self.count > MOST_ENTRIES
-    }
-
-    // Tells that there are more entries than a bundle may have.
-    fn refuse_more(&mut self) {
-        self.is_refused = true;
-        self.changes.put(format_args!(
-            "linux.seccomp.syscalls: more than the {MOST_ENTRIES} entries that a bundle may have\n"
-        ));
     }
 
     // Tells what an entry became for one call, and what is read of values that its arguments cannot have.
@@ -156,25 +131,7 @@ impl<'a> Entries<'a> {
         );
     }
 
-    // Adds what an entry says of one call whose arguments are cut.
-    fn put_cut(
-        &mut self,
-        at: usize,
-        entry: &Value,
-        name: &str,
-        conds: &[Cond],
-        plan: &Plan,
-    ) -> Result<(), AllocError> {
-        match lowered(self.alloc, conds, plan)? {
-            Ok(lowers) => self.put_lowered(at, entry, name, conds, &lowers, plan),
-            Err(place) => {
-                self.refuse_order(at, name, place, conds);
-                Ok(())
-            }
-        }
-    }
-
-    // Adds the same, whose arguments can have all values.
+    // Adds what an entry says of one call whose arguments are cut and can have all values.
     fn put_lowered(
         &mut self,
         at: usize,
@@ -192,19 +149,17 @@ impl<'a> Entries<'a> {
             );
             return Ok(());
         }
-        if are_too_many(self.alloc, lowers, plan)? {
-            self.refuse_parts(at, name);
-            return Ok(());
-        }
         // There are six arguments.
         match conditions(self.alloc, &lowers[..lowers.len().min(6)], plan) {
             Ok(lists) => {
                 self.tell(at, name, conds, lowers, lists.len());
-                self.put_parts(entry, name, &lists);
+                for conds in &lists {
+                    self.put_part(entry, name, conds.as_slice());
+                }
                 Ok(())
             }
             Err(CutError::TooMany) => {
-                self.refuse_parts(at, name);
+                self.refuse(at, name, "is more parts than a bundle may have");
                 Ok(())
             }
             Err(CutError::OutOfMemory) => Err(AllocError),
@@ -220,29 +175,17 @@ impl<'a> Entries<'a> {
         conds: &[Cond],
     ) -> Result<(), AllocError> {
         let plan = plan_of(self.machines, name, conds);
-        if cuts(&plan) {
-            return self.put_cut(at, entry, name, conds, &plan);
+        if !cuts(&plan) {
+            self.put_part(entry, name, conds);
+            return Ok(());
         }
-        self.put_part(entry, name, conds);
-        Ok(())
-    }
-
-    // Adds what an entry says of each of its calls, until there are too many.
-    fn put_calls(
-        &mut self,
-        at: usize,
-        entry: &Value,
-        names: &[Value],
-        conds: &[Cond],
-    ) -> Result<(), AllocError> {
-        for name in names {
-            let name = name.as_str().unwrap_or("");
-            self.put_call(at, entry, name, conds)?;
-            if self.is_full() {
-                break;
+        match lowered(self.alloc, conds, &plan)? {
+            Ok(lowers) => self.put_lowered(at, entry, name, conds, &lowers, &plan),
+            Err(place) => {
+                self.refuse_order(at, name, place, conds);
+                Ok(())
             }
         }
-        Ok(())
     }
 
     // Whether an argument of one of the calls is cut.
@@ -257,32 +200,36 @@ impl<'a> Entries<'a> {
         false
     }
 
-    // Adds an entry as it is.
-    fn put_whole(&mut self, entry: &Value) {
-        self.begin();
-        self.text.put(format_args!("{entry}"));
-    }
-
-    // Adds an entry, in parts where arguments are cut.
+    // Adds an entry, in parts where arguments are cut, until there are too many.
     fn put_entry(&mut self, at: usize, entry: &Value, conds: &[Cond]) -> Result<(), AllocError> {
-        let Some(names) = entry.get("names").and_then(Value::as_array) else {
-            self.put_whole(entry);
-            return Ok(());
-        };
-        let names = names.as_slice();
+        let names = list_in(entry, "names");
         if !self.is_cut(names, conds) {
-            self.put_whole(entry);
+            self.begin();
+            self.text.put(format_args!("{entry}"));
             return Ok(());
         }
-        self.put_calls(at, entry, names, conds)
+        for name in names {
+            self.put_call(at, entry, name.as_str().unwrap_or(""), conds)?;
+            if self.is_full() {
+                break;
+            }
+        }
+        Ok(())
     }
 
     /// Adds the entries, until there are too many.
     pub(crate) fn put_all(&mut self, list: &[Value], all: &EntryRules) -> Result<(), AllocError> {
+        let mut start = 0;
         for (at, entry) in list.iter().enumerate() {
-            self.put_entry(at, entry, conds_of(all, at))?;
+            let end = all.ends.get(at).copied().unwrap_or(start);
+            let rules = all.rules.get(start..end).unwrap_or(&[]);
+            start = end;
+            self.put_entry(at, entry, conds_of(rules))?;
             if self.is_full() {
-                self.refuse_more();
+                self.is_refused = true;
+                self.changes.put(format_args!(
+                    "linux.seccomp.syscalls: more than the {MOST_ENTRIES} entries that a bundle may have\n"
+                ));
                 break;
             }
         }
@@ -290,19 +237,9 @@ impl<'a> Entries<'a> {
     }
 }
 
-// The first rule of an entry.
-fn rule_of(all: &EntryRules, entry: usize) -> Option<&Rule> {
-    let start = match entry.checked_sub(1) {
-        Some(before) => *all.ends.get(before)?,
-        None => 0,
-    };
-    let end = *all.ends.get(entry)?;
-    all.rules.get(start..end)?.first()
-}
-
-// The conditions of an entry.
-fn conds_of(all: &EntryRules, entry: usize) -> &[Cond] {
-    match rule_of(all, entry) {
+// The conditions of an entry, by its rules.
+fn conds_of(rules: &[Rule]) -> &[Cond] {
+    match rules.first() {
         Some(rule) => rule.conds.as_slice(),
         None => &[],
     }

@@ -14,10 +14,10 @@ mod records;
 mod rules;
 mod suiting;
 
-pub(crate) use cutting::{MOST_PARTS, conditions};
+pub(crate) use cutting::conditions;
 pub use fault::CutError;
 pub(crate) use lowering::{cut_to, fits_in, fitting_stay, lowered_rule};
-pub(crate) use parts::{WIDEST, parts};
+pub(crate) use parts::WIDEST;
 pub(crate) use profiles::is_narrowed_of;
 pub use profiles::{is_narrowed, narrowed};
 pub use records::{cleared, cleared_is_alike};

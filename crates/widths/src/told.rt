@@ -170,24 +170,6 @@ fn told_for(
     checked(alloc, native, profile, text)
 }
 
-// The same beside what was changed.
-fn told_of(
-    alloc: Global,
-    native: Arch,
-    profile: &Profile,
-    written: Draft,
-) -> Result<Narrowing, AllocError>
-    ensures { (bundle : List ℕ) → spec.IsBundle native bundle profile.now → IfOk result (spec.IsNarrow native bundle) }
-{
-    let Draft {
-        text,
-        changes,
-        is_refused,
-    } = written;
-    let told = told_for(alloc, native, profile, text, is_refused)?;
-    Ok(Narrowing { told, changes })
-}
-
 // The narrowed bundle of one that means a profile.
 fn narrowed_of(
     alloc: Global,
@@ -198,8 +180,13 @@ fn narrowed_of(
     requires { spec.IsBundle native bundle.now profile.now }
     ensures { IfOk result (spec.IsNarrow native bundle.now) }
 {
-    let written = written(alloc, native, bundle, profile.machines())?;
-    told_of(alloc, native, profile, written)
+    let Draft {
+        text,
+        changes,
+        is_refused,
+    } = written(alloc, native, bundle, profile.machines())?;
+    let told = told_for(alloc, native, profile, text, is_refused)?;
+    Ok(Narrowing { told, changes })
 }
 
 // What tells why a bundle is refused.

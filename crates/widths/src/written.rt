@@ -1,5 +1,5 @@
 //! The bundle of narrowed entries.
-use crate::entries::{Entries, put_member};
+use crate::entries::{Entries, list_in, put_member};
 use crate::text::Text;
 use call_tables::Arch;
 use profile_json::rules_by_entry;
@@ -30,14 +30,6 @@ fn put_head(text: &mut Text, config: &Value, section: &Value) {
     text.begin("\"syscalls\": [");
 }
 
-// The entries of a section.
-fn entries_of(section: &Value) -> &[Value] {
-    match section.get("syscalls").and_then(Value::as_array) {
-        Some(list) => list.as_slice(),
-        None => &[],
-    }
-}
-
 // The section of a bundle.
 fn section_of(config: &Value) -> Option<&Value> {
     config.get("linux")?.get("seccomp")
@@ -55,9 +47,20 @@ fn put_section(
     let Ok(all) = rules_by_entry(entries.alloc, bundle, native) else {
         return Err(AllocError);
     };
-    entries.put_all(entries_of(section), &all)?;
+    entries.put_all(list_in(section, "syscalls"), &all)?;
     entries.text.end("\n      ]\n    }\n  }\n}\n");
     Ok(())
+}
+
+// Writes the bundle of one that was read.
+fn put_bundle(entries: &mut Entries<'_>, native: Arch, bundle: &[u8]) -> Result<(), AllocError> {
+    let Ok(config) = Value::from_slice(entries.alloc, bundle) else {
+        return Err(AllocError);
+    };
+    match section_of(&config) {
+        Some(section) => put_section(entries, native, bundle, &config, section),
+        None => Ok(()),
+    }
 }
 
 /// The bundle of narrowed entries of one that was read, for these machines.
@@ -68,12 +71,7 @@ pub(crate) fn written(
     machines: &[Arch],
 ) -> Result<Draft, AllocError> {
     let mut entries = Entries::new(alloc, machines);
-    let Ok(config) = Value::from_slice(alloc, bundle) else {
-        return Err(AllocError);
-    };
-    if let Some(section) = section_of(&config) {
-        put_section(&mut entries, native, bundle, &config, section)?;
-    }
+    put_bundle(&mut entries, native, bundle)?;
     let Entries {
         text,
         changes,

@@ -18,8 +18,10 @@ use Rattle.cli.specs.Dispatch.{FirstUnread, HaveBytes, StopsAtLog, WritesTold}
 use Rattle.cli.specs.Files.{Folder, HasBytes}
 use Rattle.cli.specs.Input.{StopsInput}
 use Rattle.cli.specs.Adapted.{AskNothing, IsMadeAs}
-use Rattle.cli.specs.Told.{IsManual, IsNoCommand, IsReplayed, NamesLogs, OfArguments, OfBundle, of_none, of_one}
-use Rattle.cli.specs.Written.{IsWritten, NamesForm}
+use Rattle.cli.specs.Combined.{TellsCombined, TellsStack}
+use Rattle.cli.specs.Told.{IsManual, IsNoCommand, IsReplayed, NamesLogs, OfArguments, OfBundle, OfEach, of_none, of_one}
+use Rattle.cli.specs.Written.{IsWritten, NamesForm, WritesMade}
+use Rattle.together.specs.declared.way.Way.{Way}
 
 -- the files are read, and what is so of their bytes is told; or the program stops there
 abbrev pub IsToldOf : Option Folder → List (List ℕ) → (List (List ℕ) → Told → Type 0) → Result Told Stop → Type 0
@@ -74,6 +76,20 @@ pub record IsReplayOf (folder : Option Folder) (native : Arch) (bundle : List �
   pub unused : Bool
   pub named : NamesLogs words logs unused
   pub is : IsToldOf folder (bundle ∷ logs) (IsReplayed native unused logs) told
+
+-- the profile that bundles mean together, in the form that the words ask for
+pub record IsCombinedOf (folder : Option Folder) (native : Arch) (way : Way) (words : List (List ℕ)) (told : Result Told Stop) : Type 0 where
+  pub bundles : List (List ℕ)
+  pub as_bundle : Bool
+  pub named : NamesForm words bundles as_bundle
+  pub is : IsToldOf folder bundles (λ texts. WritesMade native as_bundle (OfEach native (TellsCombined native way) texts)) told
+
+-- the one that filters mean together
+pub record IsStackOf (folder : Option Folder) (native : Arch) (words : List (List ℕ)) (told : Result Told Stop) : Type 0 where
+  pub filters : List (List ℕ)
+  pub as_bundle : Bool
+  pub named : NamesForm words filters as_bundle
+  pub is : IsToldOf folder filters (λ texts. WritesMade native as_bundle (TellsStack native texts)) told
 
 -- the program stops at the file of that name, or for want of memory
 abbrev pub StopsAtName : List ℕ → Stop → Type 0

@@ -13,36 +13,14 @@ use std::alloc::AllocError;
 use std::fmt::Write;
 use wording::{ActionText, ConditionText, entry_at, machine_with};
 
-// Adds the line of a machine's call that has a name.
-fn put_named(text: &mut String, name: &str, arch: Arch, nr: u32) -> Result<(), AllocError>
-    ensures { IfOk result (λ _. string_bytes text.new ≡ string_bytes text.old ++ phrases.named_call (Some name.now) arch nr) }
-{
-    let machine = arch.machine_name();
-    writeln!(text, "call {name}, number {nr} of {machine}")
-}
-
-// Adds the line of a machine's number without a call.
-fn put_unnamed(text: &mut String, arch: Arch, nr: u32) -> Result<(), AllocError>
-    ensures { IfOk result (λ _. string_bytes text.new ≡ string_bytes text.old ++ phrases.named_call None arch nr) }
-{
-    let machine = arch.machine_name();
-    writeln!(text, "call {nr} of {machine}")
-}
-
-// Adds the line of a call of a machine that is not known.
-fn put_foreign(text: &mut String, token: u32, nr: u32) -> Result<(), AllocError>
-    ensures { IfOk result (λ _. string_bytes text.new ≡ string_bytes text.old ++ phrases.call_on None token nr) }
-{
-    writeln!(text, "call {nr} of 0x{token:x}")
-}
-
 // Adds the line of a machine's call.
 fn put_call(text: &mut String, arch: Arch, nr: u32) -> Result<(), AllocError>
     ensures { IfOk result (λ _. string_bytes text.new ≡ string_bytes text.old ++ phrases.call_on (Some arch) 0 nr) }
 {
+    let machine = arch.machine_name();
     match arch.name(nr) {
-        Some(name) => put_named(text, name, arch, nr),
-        None => put_unnamed(text, arch, nr),
+        Some(name) => writeln!(text, "call {name}, number {nr} of {machine}"),
+        None => writeln!(text, "call {nr} of {machine}"),
     }
 }
 
@@ -57,7 +35,7 @@ pub(crate) fn put_number(
 {
     match machine_with(family, token, nr) {
         Some(arch) => put_call(text, arch, nr),
-        None => put_foreign(text, token, nr),
+        None => writeln!(text, "call {nr} of 0x{token:x}"),
     }
 }
 

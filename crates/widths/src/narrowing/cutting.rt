@@ -61,10 +61,11 @@ pub fn conditions(
     made.push(ArrayVec::new())?;
     for cond in conds {
         let parts = parts(alloc, cond, plan[cond.index as usize])?;
-        let longer = extended(alloc, &made, &parts)?;
-        if longer.len() > MOST_PARTS {
+        let count = made.len().saturating_mul(parts.len());
+        if count > MOST_PARTS {
             return Err(CutError::TooMany);
         }
+        let longer = extended(alloc, &made, &parts)?;
         made = longer;
     }
     Ok(made)

@@ -5,7 +5,7 @@ ghost use Rattle.widths.specs.Patterns as spec;
 use std::alloc::{AllocError, Global};
 
 /// Bits that a number has under a mask.
-#[derive(Clone, Copy, Debug)]
+#[derive(Clone, Copy)]
 pub(crate) struct Pattern {
     pub(crate) mask: u64,
     pub(crate) datum: u64,

@@ -17,6 +17,11 @@ returns-in-Ok-clause-quiet g c command is done =
     same_parts c.in-Ok.line (read c.parts_of.result) command (λ k p. TellsChanges k p ⊎ (c.obey.new.err ≡ c.args.err.now)) c.parts_of.ensures
     (c.in-Ok.ensures.command command is) (c.obey.ensures.quiet done)
 
+pub returns-in-Ok-clause-no : goal.returns-in-Ok-clause-no
+returns-in-Ok-clause-no g c command is done =
+    same_parts c.in-Ok.line (read c.parts_of.result) command (λ k p. TellsRefusal k p ⊎ (c.obey.new.err ≡ c.args.err.now)) c.parts_of.ensures
+    (c.in-Ok.ensures.command command is) (c.obey.ensures.no done)
+
 pub returns-in-Ok-clause-refused : goal.returns-in-Ok-clause-refused
 returns-in-Ok-clause-refused g c command is done =
     same_parts c.in-Ok.line (read c.parts_of.result) command (λ k p. TellsRefusal k p ⊎ (c.obey.new.err ≡ c.args.err.now)) c.parts_of.ensures

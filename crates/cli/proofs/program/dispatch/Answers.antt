@@ -3,28 +3,26 @@ use Rattle.std.specs.Prelude.{Err, Ok}
 use Rattle.command_line.specs.declared.prose.Command.TheVariants.{Certify, Check, Run}
 use Rattle.command_line.specs.Lines.{texts}
 use Rattle.cli.specs.Dispatch.{Does}
-use Rattle.cli.specs.Stop.{ReportsOn}
 use Rattle.cli.proofs.StatusLaws.{all_behind_is_right, behind_is_right, certify_is_right, check_is_right, run_is_answered}
-use Rattle.cli.proofs.UnbegunLaws.{tells_misuse}
+use Rattle.cli.proofs.UnbegunLaws.{tells_misuse, tells_stop}
 use Rattle.cli.proofs.program.dispatch.Goals as goal
 
 pub returns-in-Err-clause-misuse : goal.returns-in-Err-clause-misuse
 returns-in-Err-clause-misuse g c none =
-    let lines = subst (λ e. ReportsOn g.E.Sink.held g.E.Sink.failures e c.report_on.new.err (texts c.args.arguments.now) c.in-Err.stop)
-    c.in-Err.ensures.stopped c.report_on.ensures.lines in
-    tells_misuse g.E.Sink.held g.E.Sink.failures c.args.err.now c.report_on.new.err (texts c.args.arguments.now) c.in-Err.stop c.report_on.result
-    (c.in-Err.ensures.misuse none) c.report_on.ensures.status lines
+    tells_misuse g.E.Sink.held g.E.Sink.failures c.args.err.now c.carry_out.new.err c.status_on.new.err (texts c.args.arguments.now)
+    c.in-Err.stop c.status_on.result (c.in-Err.ensures.misuse none) c.status_on.ensures.status c.in-Err.ensures.stopped
+    c.status_on.ensures.lines
 
 pub returns-in-Err-clause-answers : goal.returns-in-Err-clause-answers
-returns-in-Err-clause-answers g c command is =
-    let lines = subst (λ e. ReportsOn g.E.Sink.held g.E.Sink.failures e c.report_on.new.err (texts c.args.arguments.now) c.in-Err.stop)
-    c.in-Err.ensures.stopped c.report_on.ensures.lines in record {
-      outcome = Err c.in-Err.stop;
-      does = c.in-Err.ensures.does command is;
-      ends = c.report_on.ensures.status;
-      tells = lines;
-      explained = tt;
-    }
+returns-in-Err-clause-answers g c command is = record {
+  outcome = Err c.in-Err.stop;
+  does = c.in-Err.ensures.does command is;
+  ends = c.status_on.ensures.status;
+  tells =
+      tells_stop g.E.Sink.held g.E.Sink.failures c.args.err.now c.carry_out.new.err c.status_on.new.err (texts c.args.arguments.now) command
+      c.in-Err.stop c.in-Err.ensures.stopped (c.in-Err.ensures.refused command is) c.status_on.ensures.quiet c.status_on.ensures.lines;
+  explained = tt;
+}
 
 pub returns-in-Ok-true-clause-check : goal.returns-in-Ok-true-clause-check
 returns-in-Ok-true-clause-check g c machine bundle filter cert is e =

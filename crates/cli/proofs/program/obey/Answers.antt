@@ -6,11 +6,13 @@ use Rattle.command_line.specs.Lines.{texts}
 use Rattle.cli.specs.Dispatch.{any_call, explained_as}
 use Rattle.cli.specs.Told.{OfArguments, OfBundle, of_none, of_one, of_two}
 use Rattle.cli.specs.Tuned.{TellsTuned}
+use Rattle.review.specs.Reviewed.{IsReviewed}
+use Rattle.together.specs.declared.way.Way.TheVariants.{Laxest, Strictest}
 use Rattle.cli.specs.inner.Telling.{told_in}
 use Rattle.cli.specs.Read.{TellsLinted}
 use Rattle.cli.specs.Parts.{read}
 use Rattle.cli.proofs.AuditLaws.{answers_audited}
-use Rattle.cli.proofs.DispatchLaws.{answers_adapted, answers_manual, answers_recovered, answers_replayed, answers_told}
+use Rattle.cli.proofs.DispatchLaws.{answers_adapted, answers_combined, answers_manual, answers_stack, answers_recovered, answers_replayed, answers_told}
 use Rattle.cli.proofs.LogLaws.{answers_learned}
 use Rattle.cli.proofs.program.obey.Goals as goal
 
@@ -119,4 +121,35 @@ returns-in-Replay-clause-does g c = rw c.in-Replay.is (
   answers_replayed g.O.Sink.held g.O.Sink.failures (g.F.Files.folder c.args.files.now) c.args.out.now c.tell-in-Replay.new.out
       c.args.parts.native c.args.parts.two.now (texts c.args.parts.from_three.now) c.tell-in-Replay.result c.replayed.result
       c.replayed.ensures c.tell-in-Replay.ensures,
+)
+
+pub returns-in-Join-clause-does : goal.returns-in-Join-clause-does
+returns-in-Join-clause-does g c = rw c.in-Join.is (
+  refl,
+  answers_combined g.O.Sink.held g.O.Sink.failures (g.F.Files.folder c.args.files.now) c.args.out.now c.tell_both-in-Join.new.out
+      c.args.parts.native Laxest (texts c.args.parts.from_two.now) c.tell_both-in-Join.result c.combined.result c.combined.ensures
+      c.tell_both-in-Join.ensures.told,
+)
+
+pub returns-in-Meet-clause-does : goal.returns-in-Meet-clause-does
+returns-in-Meet-clause-does g c = rw c.in-Meet.is (
+  refl,
+  answers_combined g.O.Sink.held g.O.Sink.failures (g.F.Files.folder c.args.files.now) c.args.out.now c.tell_both-in-Meet.new.out
+      c.args.parts.native Strictest (texts c.args.parts.from_two.now) c.tell_both-in-Meet.result c.combined-in-Meet.result
+      c.combined-in-Meet.ensures c.tell_both-in-Meet.ensures.told,
+)
+
+pub returns-in-Stack-clause-does : goal.returns-in-Stack-clause-does
+returns-in-Stack-clause-does g c = rw c.in-Stack.is (
+  refl,
+  answers_stack g.O.Sink.held g.O.Sink.failures (g.F.Files.folder c.args.files.now) c.args.out.now c.tell_both-in-Stack.new.out
+      c.args.parts.native (texts c.args.parts.from_two.now) c.tell_both-in-Stack.result c.stacked.result c.stacked.ensures
+      c.tell_both-in-Stack.ensures.told,
+)
+
+pub returns-in-Review-clause-does : goal.returns-in-Review-clause-does
+returns-in-Review-clause-does g c = rw c.in-Review.is (
+  refl,
+  answers_told g.O.Sink.held g.O.Sink.failures (g.F.Files.folder c.args.files.now) (c.args.parts.two.now ∷ []) (of_one (OfBundle c.args.parts.native (IsReviewed c.args.parts.native)))
+      c.args.out.now c.tell-in-Review.new.out c.tell-in-Review.result c.reviewed.result c.reviewed.ensures c.tell-in-Review.ensures,
 )

@@ -1,6 +1,15 @@
-use Rattle.std.proofs.Common.{◌≡◌, true, false, inl, refl}
+use Rattle.std.proofs.Common.{◌≡◌, true, false, inl, inr, refl}
 use Rattle.cert_check.proofs.TestLaws.{not_so, so}
 use Rattle.cert_check.proofs.judging.Agreement.weigh_left.Goals as goal
+
+pub returns-then-not-number : goal.returns-then-not-number
+returns-then-not-number g c = (
+  λ no. elim no.0 [
+    | inl other ↦ not_so c.args.number.other c.if-not-number.true (c.requires.number.1.1 other)
+    | inr one ↦ c.requires.none one
+  ],
+  c.requires.word,
+)
 
 pub returns-then-not-number-2 : goal.returns-then-not-number-2
 returns-then-not-number-2 g c =

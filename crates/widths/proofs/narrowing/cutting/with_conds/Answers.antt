@@ -1,10 +1,27 @@
-use Rattle.std.proofs.Common.{◌≡◌, ◌++◌, [], ◌∷◌, List, length, map, sym, ◌∙◌, ap, subst, arith}
+use Rattle.std.proofs.Common.{◌≡◌, true, ◌++◌, [], ◌∷◌, List, length, map, sym, ◌∙◌, ap, subst, arith}
+use Rattle.std.specs.Prelude.{IsSome, Option}
 use Rattle.std.specs.List.{All}
-use Rattle.std.proofs.lemmas.List.Elements.{All-push, same_from_all_zip}
+use Rattle.std.proofs.lemmas.List.Elements.{All-contains, All-push, same_from_all_zip}
+use Rattle.arrayvec.specs.declared.array_vec.ArrayVec.{ArrayVec}
+use Rattle.profile.specs.declared.conditions.Cond.{Cond}
+use Rattle.profile.specs.Operator.{are_distinct}
 use Rattle.profile.specs.declared.rules.Rule.{Rule}
 use Rattle.widths.specs.Cutting.{IsLike}
+use Rattle.widths.proofs.LowerLaws.{not_both}
 use Rattle.widths.proofs.StepLaws.{conds_more}
 use Rattle.widths.proofs.narrowing.cutting.with_conds.Goals as goal
+
+pub unreachable-unreachable : goal.unreachable-unreachable
+unreachable-unreachable c =
+    let rule = c.args.rule.now in
+    let list = c.list-item.result in
+    let same = same_from_all_zip _ list.items c.in_ok-clone.field-0.items c.in_ok-clone.ensures.cases (λ x y e. e) in
+    let like =
+    All-contains (λ (v : ArrayVec Cond 6 (Unit {0})). map (λ (d : Cond). d.index) v.items ≡ map (λ (x : Cond). x.index) rule.conds.items)
+    c.args.lists.now list c.requires (c.loop-list.list-index, c.loop-list-test.true, sym c.list-item.is) in
+    let apart : are_distinct (map (λ (x : Cond). x.index) c.in_ok-clone.field-0.items) ≡ true =
+    ap (λ (xs : List Cond). are_distinct (map (λ (x : Cond). x.index) xs)) same ∙ ap are_distinct like ∙ rule.apart in
+    absurd (not_both (subst (λ (o : Option Rule). IsSome o) c.in-None.is (c.new.ensures.made.1 apart)))
 
 pub loop-list-preserved : goal.loop-list-preserved
 loop-list-preserved c =

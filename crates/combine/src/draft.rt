@@ -1,0 +1,65 @@
+//! What is written of profiles before it is judged.
+use crate::product::product;
+use crate::uncombined::Uncombined;
+use bpf_insn::{Insn, MAX_INSNS, encode_into};
+use call_tables::Arch;
+use profile::Profile;
+use profile_json::{Bundle, ProfileError, read_bundle};
+use recover::{Unsaid, recover};
+use rule_compile::plan;
+use std::alloc::{AllocError, Global};
+use together::Way;
+
+// The instructions of a profile's filter.
+fn insns_of(alloc: Global, profile: &Profile) -> Result<Vec<Insn>, AllocError> {
+    let planned = plan(alloc, profile)?;
+    Ok(planned.insns)
+}
+
+// The bundle that says a filter.
+fn bundle_of(alloc: Global, native: Arch, insns: &[Insn]) -> Result<String, Uncombined> {
+    if insns.len() > MAX_INSNS {
+        return Err(Uncombined::TooLong);
+    }
+    let mut filter = vec![in alloc; 0u8; 8 * insns.len()]?;
+    encode_into(insns, &mut filter);
+    match recover(alloc, native, &filter) {
+        Ok(bundle) => Ok(bundle),
+        Err(Unsaid::OutOfMemory) => Err(Uncombined::OutOfMemory),
+        Err(unsaid) => Err(Uncombined::Together(unsaid)),
+    }
+}
+
+// The instructions of the filter of a bundle that was written.
+fn insns_again(alloc: Global, native: Arch, bundle: &str) -> Result<Vec<Insn>, Uncombined> {
+    match read_bundle(alloc, bundle.as_bytes(), native) {
+        Ok(Bundle { profile }) => Ok(insns_of(alloc, &profile)?),
+        Err(ProfileError::OutOfMemory) => Err(Uncombined::OutOfMemory),
+        Err(error) => Err(Uncombined::Unread(error)),
+    }
+}
+
+/// The bundle that seems to say what profiles say together.
+pub(crate) fn drafted(
+    alloc: Global,
+    native: Arch,
+    way: Way,
+    profiles: &[Profile],
+) -> Result<String, Uncombined> {
+    let mut found: Option<String> = None;
+    for profile in profiles {
+        let own = insns_of(alloc, profile)?;
+        let insns = match &found {
+            Some(bundle) => {
+                let before = insns_again(alloc, native, bundle)?;
+                product(alloc, way, &before, &own)?
+            }
+            None => own,
+        };
+        found = Some(bundle_of(alloc, native, &insns)?);
+    }
+    match found {
+        Some(bundle) => Ok(bundle),
+        None => Err(Uncombined::Nothing),
+    }
+}

@@ -1,0 +1,3 @@
+pub mod OpposedLaws
+pub mod JudgedLaws
+pub mod ReviewedLaws

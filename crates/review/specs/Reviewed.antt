@@ -1,0 +1,27 @@
+-- What `ccell review` tells of a bundle.
+use Rattle.std.specs.Prelude.{◌≡◌, ◌⊎◌, ℕ, true, List}
+use Rattle.call_tables.specs.declared.arch.Arch.{Arch}
+use Rattle.profile.specs.declared.rules.Rule.{Rule}
+use Rattle.profile.specs.Policy.{Policy}
+use Rattle.wording.specs.Told.{RefusesBundle}
+use Rattle.wording.specs.Understood.{IsReadAs}
+use Rattle.wording.specs.declared.told.Told.{Told}
+use Rattle.review.specs.Groups.{AreAllGroups, GroupEntry}
+use Rattle.review.specs.Told.{TellsGroups}
+
+-- the text tells of all groups what the profile that the bundle means lets through, and by which of the bundle's entries
+pub record TellsReview (native : Arch) (bundle text : List ℕ) : Type 0 where
+  pub policy : Policy
+  pub rules : List Rule
+  pub ends : List ℕ
+  pub read : IsReadAs native bundle policy rules ends
+  pub groups : List GroupEntry
+  pub are_all : AreAllGroups groups
+  pub tells : TellsGroups policy rules ends groups text
+
+pub record ReviewsBundle (native : Arch) (bundle : List ℕ) (told : Told) : Type 0 where
+  pub review : TellsReview native bundle told.bytes.items
+  pub done : told.done ≡ true
+
+abbrev pub IsReviewed : Arch → List ℕ → Told → Type 0
+IsReviewed native bundle told = RefusesBundle native bundle told ⊎ ReviewsBundle native bundle told

@@ -1,0 +1,73 @@
+//! What `ccell review` tells.
+ghost use Rattle.std.specs.Prelude.{◌≡◌, ℕ, List, IfErr, IfOk, IfSome, string_bytes};
+ghost use Rattle.profile_json.specs.Breaks.{Breaks};
+ghost use Rattle.profile_json.specs.Fault.{fault_of};
+ghost use Rattle.review.specs.Reviewed as spec;
+ghost use Rattle.review.specs.Groups.{AreAllGroups, GroupEntry};
+ghost use Rattle.review.specs.Told.{AddsGroup, TellsGroups};
+
+use crate::asked::asked_of;
+use crate::groups::Group;
+use crate::judged::judge;
+use crate::table::groups;
+use crate::text::put_group;
+use call_tables::Arch;
+use profile::Profile;
+use profile_json::{EntryRules, ProfileError, read_bundle, rules_by_entry};
+use std::alloc::{AllocError, Global};
+use wording::{Told, refused_profile};
+
+// Adds what is told of a group.
+fn add_group(
+    alloc: Global,
+    text: &mut String,
+    profile: &Profile,
+    all: &EntryRules,
+    group: &Group,
+) -> Result<(), AllocError>
+    ensures { IfOk result (λ _. AddsGroup profile.now all.now.rules.items all.now.ends.items group.now (string_bytes text.old) (string_bytes text.new)) }
+{
+    let asked = asked_of(alloc, profile.machines(), group.2)?;
+    let list = judge(alloc, profile, &asked)?;
+    put_group(text, profile, all, group, &list)?;
+    Ok(())
+}
+
+// What is told of all groups.
+fn text_of(alloc: Global, profile: &Profile, all: &EntryRules) -> Result<String, AllocError>
+    ensures { IfOk result (λ text. (groups : List GroupEntry) × AreAllGroups groups
+        × TellsGroups profile.now all.now.rules.items all.now.ends.items groups (string_bytes text)) }
+{
+    let mut text = String::new(alloc);
+    let groups = groups();
+    for group in groups {
+        add_group(alloc, &mut text, profile, all, group)?;
+    }
+    Ok(text)
+}
+
+// What is told of a bundle.
+fn text_for(alloc: Global, native: Arch, bundle: &[u8]) -> Result<String, ProfileError>
+    ensures tells { IfOk result (λ text. spec.TellsReview native bundle.now (string_bytes text)) }
+    // Unless memory ran out, the fault stands in the bundle.
+    ensures fault { IfErr result (λ e. IfSome (fault_of e) (Breaks bundle.now native)) }
+{
+    let read = read_bundle(alloc, bundle, native)?;
+    let all = rules_by_entry(alloc, bundle, native)?;
+    let text = text_of(alloc, &read.profile, &all)?;
+    Ok(text)
+}
+
+/// Tells what a bundle, which is read for a native machine, leaves open of the calls by which a kernel is attacked most: group by
+/// group, each call that it lets through, and by which entry.
+pub fn review(alloc: Global, native: Arch, bundle: &[u8]) -> Result<Told, AllocError>
+    ensures { IfOk result (spec.IsReviewed native bundle.now) }
+{
+    match text_for(alloc, native, bundle) {
+        Ok(text) => Ok(Told {
+            bytes: text.into_bytes(),
+            done: true,
+        }),
+        Err(error) => refused_profile(alloc, error),
+    }
+}

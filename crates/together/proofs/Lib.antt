@@ -1,0 +1,4 @@
+pub mod SaidLaws
+pub mod SampleLaws
+pub mod CallLaws
+pub mod BundleLaws

@@ -1,0 +1,4 @@
+pub mod Word
+pub mod Together
+pub mod Combined
+pub mod OnCall

@@ -1,0 +1,119 @@
+//! Whether a profile says of each call record what several say together.
+ghost use Rattle.std.specs.Prelude.{◌≡◌, ℕ, true, IfOk, IfNone, IfSome};
+ghost use Rattle.call_record.specs.Record.{words};
+ghost use Rattle.call_record.specs.Words.{words_from};
+ghost use Rattle.differ.specs.Named.{is_named};
+ghost use Rattle.together.specs.Together.{IsUnlike, SaysTogether};
+ghost use Rattle.together.specs.OnCall.{AgreesOnCall};
+
+use crate::calls::named_calls;
+use crate::samples::samples_of;
+use crate::unlike::{Unlike, unlike_on};
+use crate::way::Way;
+use call_record::{Record, words_are_a_record};
+use differ::{Call, Unlisted, rest_of};
+use profile::Profile;
+use std::alloc::{AllocError, AllocFailed, Global};
+
+/// Why it is not settled.
+#[derive(Clone, Copy, Debug, PartialEq, Eq)]
+pub enum Unsettled {
+    /// The conditions on the arguments of a call can answer in more ways than are looked at.
+    Crowded(Call),
+    /// There is not enough memory.
+    OutOfMemory,
+}
+
+impl From<AllocError> for Unsettled {
+    fn from(_error: AllocError) -> Unsettled {
+        Unsettled::OutOfMemory
+    }
+}
+
+impl<T: Drop> From<AllocFailed<T>> for Unsettled {
+    fn from(_error: AllocFailed<T>) -> Unsettled {
+        Unsettled::OutOfMemory
+    }
+}
+
+// The call with these arguments.
+fn record_of(call: Call, args: [u64; 6]) -> Record
+    ensures { words result ≡ words_from call.nr call.token 0 args }
+{
+    Record {
+        nr: call.nr,
+        arch: call.token,
+        ip: 0,
+        args,
+    }
+}
+
+// A record of a call on which the verdicts are unlike.
+fn unlike_in(
+    alloc: Global,
+    way: Way,
+    profiles: &[Profile],
+    joined: &Profile,
+    call: &Call,
+) -> Result<Option<Unlike>, Unsettled>
+    ensures none { IfOk result (λ found. IfNone found (AgreesOnCall way profiles.now joined.now call.now.token call.now.nr)) }
+    ensures some { IfOk result (λ found. IfSome found (IsUnlike way profiles.now joined.now)) }
+{
+    let samples = match samples_of(alloc, profiles, joined, call) {
+        Ok(samples) => samples,
+        Err(Unlisted::TooMany) => return Err(Unsettled::Crowded(*call)),
+        Err(Unlisted::OutOfMemory) => return Err(Unsettled::OutOfMemory),
+    };
+    for args in &samples {
+        let record = record_of(*call, *args);
+        words_are_a_record(&record);
+        if let Some(found) = unlike_on(alloc, way, profiles, joined, &record)? {
+            return Ok(Some(found));
+        }
+    }
+    Ok(None)
+}
+
+// A record of one of these calls on which the verdicts are unlike.
+fn unlike_in_any(
+    alloc: Global,
+    way: Way,
+    profiles: &[Profile],
+    joined: &Profile,
+    calls: &[Call],
+) -> Result<Option<Unlike>, Unsettled>
+    ensures none { (token nr : ℕ) → is_named calls.now token nr ≡ true
+        → IfOk result (λ found. IfNone found (AgreesOnCall way profiles.now joined.now token nr)) }
+    ensures some { IfOk result (λ found. IfSome found (IsUnlike way profiles.now joined.now)) }
+{
+    for call in calls {
+        if let Some(found) = unlike_in(alloc, way, profiles, joined, call)? {
+            return Ok(Some(found));
+        }
+    }
+    Ok(None)
+}
+
+// A call of no machine.
+const FOREIGN: Call = Call { token: 0, nr: 0 };
+
+/// Whether a profile says of each call record what counts of the verdicts that several say of it, or a record of which it says another.
+pub fn judge(
+    alloc: Global,
+    way: Way,
+    profiles: &[Profile],
+    joined: &Profile,
+) -> Result<Option<Unlike>, Unsettled>
+    ensures none { IfOk result (λ found. IfNone found (SaysTogether way profiles.now joined.now)) }
+    ensures some { IfOk result (λ found. IfSome found (IsUnlike way profiles.now joined.now)) }
+{
+    let named = named_calls(alloc, profiles, joined)?;
+    let rest = rest_of(alloc, &named)?;
+    if let Some(found) = unlike_in_any(alloc, way, profiles, joined, &named)? {
+        return Ok(Some(found));
+    }
+    if let Some(found) = unlike_in_any(alloc, way, profiles, joined, &rest)? {
+        return Ok(Some(found));
+    }
+    unlike_in(alloc, way, profiles, joined, &FOREIGN)
+}
