@@ -1,6 +1,6 @@
 #!/usr/bin/env bash
 # gate.sh CCELL MACHINE OLD NEW: compares each bundle of the folder NEW with the one of that name in the folder OLD. Status 0 where
-# each of them lets nothing through that its old one refuses.
+# each of them lets nothing through that its old one refuses. Compare narrowed bundles with narrowed ones (`ccell adapt .. narrow`).
 set -u
 [ $# -eq 4 ] || { echo 'usage: gate.sh CCELL MACHINE OLD NEW' >&2; exit 2; }
 status=0

@@ -45,17 +45,25 @@ static void write_file(const struct loaded *filter, pid_t pid, long place) {
     fclose(to);
 }
 
+/* Stops a process. One that is frozen, or that waits in the kernel (state D), may never stop: five seconds are given. */
+static void stop(pid_t pid) {
+    int status = 0;
+    pid_t seen = 0;
+    if (ptrace(PTRACE_SEIZE, pid, NULL, NULL)) err(1, "process %d", pid);
+    if (ptrace(PTRACE_INTERRUPT, pid, NULL, NULL)) err(1, "process %d does not stop", pid);
+    for (int i = 0; i < 500 && !(seen = waitpid(pid, &status, __WALL | WNOHANG)); i++) usleep(10000);
+    if (!seen) errx(1, "process %d does not stop: it is paused, or waits in the kernel", pid);
+    if (seen != pid || !WIFSTOPPED(status)) errx(1, "process %d ended", pid);
+}
+
 int main(int argc, char **argv) {
     pid_t pid = argc == 2 || argc == 3 ? (pid_t)atol(argv[1]) : 0;
-    int is_all = argc == 3 && !strcmp(argv[2], "all"), status;
+    int is_all = argc == 3 && !strcmp(argv[2], "all");
     long place = argc == 3 ? atol(argv[2]) : 0, count = 0;
     if (pid <= 0 || place < 0) errx(2, "usage: dump PID [PLACE | all]");
     if (!is_all && isatty(STDOUT_FILENO)) errx(2, "the filter is bytes: send it to a file");
 
-    if (ptrace(PTRACE_SEIZE, pid, NULL, NULL)) err(1, "process %d", pid);
-    if (ptrace(PTRACE_INTERRUPT, pid, NULL, NULL)) err(1, "process %d does not stop", pid);
-    if (waitpid(pid, &status, __WALL) != pid || !WIFSTOPPED(status)) errx(1, "process %d ended", pid);
-
+    stop(pid);
     while (get(pid, count, NULL) >= 0) count++;
     if (errno != ENOENT && errno != EINVAL) err(1, "the kernel shows no filter");
     if (place >= count) errx(1, "process %d has %ld filters, and none at place %ld", pid, count, place);

@@ -84,7 +84,7 @@ def faults(room, has_x32):
     for process, each in said.items():
         if each["filters"] != len(CONTAINERS[process][1]) or each["older"] != OLDER_CALLS.get(process, 0):
             yield f"{each}"
-        if (each["record"] != "") != (wanted[process] in ("differs", "same-but-x32")):
+        if (each["record"] != "") != (wanted[process] == "differs"):
             yield f"{each}"
         right = int(wanted[process] in ("same", "same-but-x32"))
         for line in (f'ccell_container_filter{{container="{process}",verdict="{wanted[process]}"}} 1',

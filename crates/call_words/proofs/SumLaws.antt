@@ -2,11 +2,13 @@
 use Rattle.std.proofs.Common.{◌≡◌, ℕ, ◌+◌, ◌<◌, Bool, true, false, cond, suc, List, [], ◌∷◌, ◌++◌, length, length-append, refl, ap, sym, subst, arith, inl, inr, ◌⊎◌, ◌∙◌}
 use Rattle.std.specs.Prelude.{◌==◌, ◌&&◌, if◌then◌else◌, codes, Option, Some, None, IfSome, MatchOption}
 use Rattle.std.specs.Char.{is_ascii_digit}
-use Rattle.std.specs.Option.{option_map}
+use Rattle.std.specs.Option.{option_map, option_or}
+use Rattle.std.specs.Str.{bytes_eq}
 use Rattle.std.specs.List.{onto_first, slice_split}
 use Rattle.std.proofs.lemmas.Bool.{cases_Bool}
 use Rattle.std.proofs.lemmas.List.Splits.{slice_split-cons_no, slice_split-cons_yes}
 use denote.Ref.{Bor}
+use Rattle.call_tables.specs.Table.{Table, number_in as number_in_table}
 use Rattle.texts.specs.Digits.{are_digits}
 use Rattle.texts.specs.Numbers.{decimal_at, number_of as number_in}
 use Rattle.texts.specs.Splits.{behind, split_at}
@@ -84,3 +86,15 @@ number_begins word n e = by_mark (behind (codes "0x") word) refl e where
 pub numbers_stay : NumbersStay
 unfolding sum_of
 numbers_stay word n e = let digit : begins_with_digit word ≡ true = number_begins word n e in rw digit refl
+
+-- ---- tables
+
+-- the number beside the first such name of two tables
+pub number_in_both : (a b : Table) (name : List ℕ) → number_in_table (a ++ b) name ≡ option_or (number_in_table a name) (number_in_table b name)
+number_in_both [] b name = refl
+number_in_both (e ∷ a) b name = by_test (bytes_eq e.0 name) (number_in_both a b name) where
+  by_test : (t : Bool) → number_in_table (a ++ b) name ≡ option_or (number_in_table a name) (number_in_table b name)
+      → cond {A = Option ℕ} t (Some e.1) (number_in_table (a ++ b) name)
+      ≡ option_or (cond {A = Option ℕ} t (Some e.1) (number_in_table a name)) (number_in_table b name)
+  by_test true ih = refl
+  by_test false ih = ih

@@ -1,19 +1,26 @@
 -- Names of constants among the words of a command line, and the numbers that arguments are.
-use Rattle.std.specs.Prelude.{ℕ, ◌≡◌, ◌==◌, if◌then◌else◌, Bool, false, List, [], ◌∷◌, map, bit_or, Option, Some, None, option_and_then}
+use Rattle.std.specs.Prelude.{ℕ, ◌≡◌, ◌==◌, if◌then◌else◌, Bool, false, List, [], ◌∷◌, ◌++◌, map, bit_or, Option, Some, None, option_and_then}
 use Rattle.std.specs.Char.{is_ascii_digit}
 use Rattle.std.specs.Fmt.{decimal}
 use Rattle.std.specs.List.{slice_split}
 use Rattle.std.specs.Option.{option_or}
 use Rattle.call_tables.specs.Table.{number_in}
 use Rattle.call_words.specs.Numbers.{number_of}
-use Rattle.call_words.specs.declared.constants.TheConstants.{FILES, IOCTL, MEMORY, PRCTL, PROCESSES, SOCKETS}
+use Rattle.call_words.specs.declared.constants.TheConstants.{ADVICE, CLONING, FAMILIES, IOCTL, MAPPINGS, OPENING}
+use Rattle.call_words.specs.declared.constants.TheConstants.{PERSONALITIES, PRCTL, PROTECTIONS, SOCKET_TYPES, TRACING}
 
 -- the tables of the kernel's headers: each constant with its number
-unfoldable pub sockets : List (List ℕ × ℕ)
-sockets = map (λ e. (e.0.now, e.1)) SOCKETS.now
+unfoldable pub families : List (List ℕ × ℕ)
+families = map (λ e. (e.0.now, e.1)) FAMILIES.now
 
-unfoldable pub processes : List (List ℕ × ℕ)
-processes = map (λ e. (e.0.now, e.1)) PROCESSES.now
+unfoldable pub socket_types : List (List ℕ × ℕ)
+socket_types = map (λ e. (e.0.now, e.1)) SOCKET_TYPES.now
+
+unfoldable pub cloning : List (List ℕ × ℕ)
+cloning = map (λ e. (e.0.now, e.1)) CLONING.now
+
+unfoldable pub personalities : List (List ℕ × ℕ)
+personalities = map (λ e. (e.0.now, e.1)) PERSONALITIES.now
 
 unfoldable pub prctl : List (List ℕ × ℕ)
 prctl = map (λ e. (e.0.now, e.1)) PRCTL.now
@@ -21,16 +28,26 @@ prctl = map (λ e. (e.0.now, e.1)) PRCTL.now
 unfoldable pub ioctl : List (List ℕ × ℕ)
 ioctl = map (λ e. (e.0.now, e.1)) IOCTL.now
 
-unfoldable pub memory : List (List ℕ × ℕ)
-memory = map (λ e. (e.0.now, e.1)) MEMORY.now
+unfoldable pub protections : List (List ℕ × ℕ)
+protections = map (λ e. (e.0.now, e.1)) PROTECTIONS.now
 
-unfoldable pub files : List (List ℕ × ℕ)
-files = map (λ e. (e.0.now, e.1)) FILES.now
+unfoldable pub mappings : List (List ℕ × ℕ)
+mappings = map (λ e. (e.0.now, e.1)) MAPPINGS.now
+
+unfoldable pub advice : List (List ℕ × ℕ)
+advice = map (λ e. (e.0.now, e.1)) ADVICE.now
+
+unfoldable pub opening : List (List ℕ × ℕ)
+opening = map (λ e. (e.0.now, e.1)) OPENING.now
+
+unfoldable pub tracing : List (List ℕ × ℕ)
+tracing = map (λ e. (e.0.now, e.1)) TRACING.now
 
 -- the number of a constant, by the first table that has it
 unfoldable pub constant_of : List ℕ → Option ℕ
-constant_of name = option_or (option_or (option_or (option_or (option_or (number_in sockets name) (number_in processes name))
-    (number_in prctl name)) (number_in ioctl name)) (number_in memory name)) (number_in files name)
+constant_of name =
+    number_in (families ++ socket_types ++ cloning ++ personalities ++ prctl ++ ioctl ++ protections ++ mappings ++ advice ++ opening
+    ++ tracing) name
 
 abbrev pub bar : ℕ
 bar = 124

@@ -1,8 +1,8 @@
 //! Constants of the kernel's headers that profiles compare arguments with. Those stand here that are one number on x86-64, x86, x32,
 //! AArch64 and ARM: `O_DIRECTORY` and `MAP_32BIT` do not. Each name has its number beside it.
 
-/// Of sockets.
-pub(crate) const SOCKETS: &[(&str, u64)] = &[
+/// Address families.
+pub(crate) const FAMILIES: &[(&str, u64)] = &[
     // address families, the first argument of socket and socketpair (<sys/socket.h>)
     ("AF_UNSPEC", 0),
     ("AF_UNIX", 1),
@@ -49,6 +49,10 @@ pub(crate) const SOCKETS: &[(&str, u64)] = &[
     ("AF_SMC", 43),
     ("AF_XDP", 44),
     ("AF_MCTP", 45),
+];
+
+/// Types of sockets.
+pub(crate) const SOCKET_TYPES: &[(&str, u64)] = &[
     // types of sockets, the second (<sys/socket.h>)
     ("SOCK_STREAM", 1),
     ("SOCK_DGRAM", 2),
@@ -61,8 +65,8 @@ pub(crate) const SOCKETS: &[(&str, u64)] = &[
     ("SOCK_CLOEXEC", 0x8_0000),
 ];
 
-/// Of processes.
-pub(crate) const PROCESSES: &[(&str, u64)] = &[
+/// What a new process shares.
+pub(crate) const CLONING: &[(&str, u64)] = &[
     // flags of clone, unshare and setns (<linux/sched.h>)
     ("CLONE_NEWTIME", 0x80),
     ("CLONE_VM", 0x100),
@@ -88,6 +92,10 @@ pub(crate) const PROCESSES: &[(&str, u64)] = &[
     ("CLONE_NEWPID", 0x2000_0000),
     ("CLONE_NEWNET", 0x4000_0000),
     ("CLONE_IO", 0x8000_0000),
+];
+
+/// Personalities.
+pub(crate) const PERSONALITIES: &[(&str, u64)] = &[
     // personalities (<linux/personality.h>)
     ("PER_LINUX", 0),
     ("PER_LINUX_32BIT", 0x80_0000),
@@ -107,7 +115,7 @@ pub(crate) const PROCESSES: &[(&str, u64)] = &[
     ("ADDR_LIMIT_3GB", 0x800_0000),
 ];
 
-/// Of prctl.
+/// Operations of prctl.
 pub(crate) const PRCTL: &[(&str, u64)] = &[
     // operations of prctl (<linux/prctl.h>)
     ("PR_SET_PDEATHSIG", 1),
@@ -164,7 +172,7 @@ pub(crate) const PRCTL: &[(&str, u64)] = &[
     ("PR_SET_PTRACER", 0x5961_6d61),
 ];
 
-/// Of ioctl.
+/// Requests of ioctl.
 pub(crate) const IOCTL: &[(&str, u64)] = &[
     // requests of ioctl (<sys/ioctl.h>)
     ("TCGETS", 0x5401),
@@ -203,8 +211,8 @@ pub(crate) const IOCTL: &[(&str, u64)] = &[
     ("FIOASYNC", 0x5452),
 ];
 
-/// Of memory.
-pub(crate) const MEMORY: &[(&str, u64)] = &[
+/// Protection of memory.
+pub(crate) const PROTECTIONS: &[(&str, u64)] = &[
     // protection of memory, of mmap and mprotect (<sys/mman.h>)
     ("PROT_NONE", 0),
     ("PROT_READ", 1),
@@ -212,6 +220,10 @@ pub(crate) const MEMORY: &[(&str, u64)] = &[
     ("PROT_EXEC", 4),
     ("PROT_GROWSDOWN", 0x100_0000),
     ("PROT_GROWSUP", 0x200_0000),
+];
+
+/// Flags of mmap.
+pub(crate) const MAPPINGS: &[(&str, u64)] = &[
     // flags of mmap (<sys/mman.h>)
     ("MAP_SHARED", 1),
     ("MAP_PRIVATE", 2),
@@ -227,6 +239,10 @@ pub(crate) const MEMORY: &[(&str, u64)] = &[
     ("MAP_HUGETLB", 0x4_0000),
     ("MAP_SYNC", 0x8_0000),
     ("MAP_FIXED_NOREPLACE", 0x10_0000),
+];
+
+/// Advice on memory.
+pub(crate) const ADVICE: &[(&str, u64)] = &[
     // advice of madvise (<sys/mman.h>)
     ("MADV_NORMAL", 0),
     ("MADV_RANDOM", 1),
@@ -252,8 +268,8 @@ pub(crate) const MEMORY: &[(&str, u64)] = &[
     ("MADV_HWPOISON", 100),
 ];
 
-/// Of files, and of ptrace.
-pub(crate) const FILES: &[(&str, u64)] = &[
+/// How a file is opened.
+pub(crate) const OPENING: &[(&str, u64)] = &[
     // flags of open (<fcntl.h>)
     ("O_RDONLY", 0),
     ("O_WRONLY", 1),
@@ -269,6 +285,10 @@ pub(crate) const FILES: &[(&str, u64)] = &[
     ("O_CLOEXEC", 0x8_0000),
     ("O_SYNC", 0x10_1000),
     ("O_PATH", 0x20_0000),
+];
+
+/// Requests of ptrace.
+pub(crate) const TRACING: &[(&str, u64)] = &[
     // requests of ptrace (<linux/ptrace.h>)
     ("PTRACE_TRACEME", 0),
     ("PTRACE_PEEKTEXT", 1),

@@ -6,8 +6,13 @@ mod law;
 mod nearest;
 mod numbers;
 mod sums;
+mod tables;
 mod wrong;
 
 pub use law::numbers_stay;
 pub use sums::sum;
+pub use tables::{
+    advice, cloning, families, ioctl, mappings, opening, personalities, prctl, protections,
+    socket_types, tracing,
+};
 pub use wrong::{put_wrong, put_wrong_call};

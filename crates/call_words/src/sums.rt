@@ -3,7 +3,10 @@ ghost use Rattle.std.specs.Prelude.{◌≡◌, ◌<◌, ◌∷◌, [], IfSome, M
 ghost use Rattle.call_tables.specs.Table.{entries, number_in};
 ghost use Rattle.call_words.specs.Constants as spec;
 
-use crate::constants::{FILES, IOCTL, MEMORY, PRCTL, PROCESSES, SOCKETS};
+use crate::tables::{
+    advice, cloning, families, ioctl, mappings, opening, personalities, prctl, protections,
+    socket_types, tracing,
+};
 use texts::split;
 
 // The number beside the first such name.
@@ -18,59 +21,22 @@ fn number_in_table(table: &[(&str, u64)], name: &str) -> Option<u64>
     None
 }
 
-#[tactic(auto, unfolding(crate::specs::Constants::sockets))]
-fn socket_constant(name: &str) -> Option<u64>
-    ensures { result ≡ number_in spec.sockets name.now }
-{
-    number_in_table(SOCKETS, name)
-}
-
-#[tactic(auto, unfolding(crate::specs::Constants::processes))]
-fn process_constant(name: &str) -> Option<u64>
-    ensures { result ≡ number_in spec.processes name.now }
-{
-    number_in_table(PROCESSES, name)
-}
-
-#[tactic(auto, unfolding(crate::specs::Constants::prctl))]
-fn prctl_constant(name: &str) -> Option<u64>
-    ensures { result ≡ number_in spec.prctl name.now }
-{
-    number_in_table(PRCTL, name)
-}
-
-#[tactic(auto, unfolding(crate::specs::Constants::ioctl))]
-fn ioctl_constant(name: &str) -> Option<u64>
-    ensures { result ≡ number_in spec.ioctl name.now }
-{
-    number_in_table(IOCTL, name)
-}
-
-#[tactic(auto, unfolding(crate::specs::Constants::memory))]
-fn memory_constant(name: &str) -> Option<u64>
-    ensures { result ≡ number_in spec.memory name.now }
-{
-    number_in_table(MEMORY, name)
-}
-
-#[tactic(auto, unfolding(crate::specs::Constants::files))]
-fn file_constant(name: &str) -> Option<u64>
-    ensures { result ≡ number_in spec.files name.now }
-{
-    number_in_table(FILES, name)
-}
-
 // The number of a constant of the kernel's headers.
 #[tactic(auto, unfolding(crate::specs::Constants::constant_of))]
 fn constant(name: &str) -> Option<u64>
     ensures { result ≡ spec.constant_of name.now }
 {
-    socket_constant(name)
-        .or(process_constant(name))
-        .or(prctl_constant(name))
-        .or(ioctl_constant(name))
-        .or(memory_constant(name))
-        .or(file_constant(name))
+    number_in_table(families(), name)
+        .or(number_in_table(socket_types(), name))
+        .or(number_in_table(cloning(), name))
+        .or(number_in_table(personalities(), name))
+        .or(number_in_table(prctl(), name))
+        .or(number_in_table(ioctl(), name))
+        .or(number_in_table(protections(), name))
+        .or(number_in_table(mappings(), name))
+        .or(number_in_table(advice(), name))
+        .or(number_in_table(opening(), name))
+        .or(number_in_table(tracing(), name))
 }
 
 // A word at its first bar, if it has one.

@@ -1,7 +1,7 @@
 -- All records that are found behind a stub.
 use Rattle.std.proofs.Common.{◌≡◌, ◌⊎◌, ℕ, ◌-◌, ◌≤◌, Bool, List, [], ◌∷◌, ap, arith, drop, get_or, inl, inr, length, refl, subst, sym, take, ◌∙◌}
 use Rattle.std.proofs.lemmas.List.{take_all}
-use Rattle.std.specs.Prelude.{IfOk, Option, Result, Ok, Err}
+use Rattle.std.specs.Prelude.{Option, Result, Ok, Err}
 use Rattle.call_tables.specs.declared.arch.Arch.{Arch}
 use Rattle.compare.specs.Behind.{AreFoundBehind, CertifiesAllBehind, IsBehind, IsNoConviction, WritesAllBehind, WritesBehind}
 use Rattle.compare.specs.Convictions.{WritesLines}

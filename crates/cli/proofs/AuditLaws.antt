@@ -1,12 +1,12 @@
 -- What is told of a kernel's log on standard input.
-use Rattle.std.proofs.Common.{◌≡◌, ℕ, inl, inr, List, [], ◌∷◌}
+use Rattle.std.proofs.Common.{ℕ, inl, inr, List, [], ◌∷◌}
 use Rattle.std.specs.Prelude.{Bool, Option, Result, Ok, Err}
 use Rattle.call_tables.specs.declared.arch.Arch.{Arch}
 use Rattle.explain.specs.Audit.{IsAudited}
 use Rattle.texts.specs.Failures.{Failures}
 use Rattle.wording.specs.declared.told.Told.{Told}
 use Rattle.cli.specs.declared.stops.Stop.{Stop}
-use Rattle.cli.specs.Dispatch.{AnswersAudit, asks_audit}
+use Rattle.cli.specs.Dispatch.{AnswersAudit}
 use Rattle.cli.specs.Files.{Folder, HasBundle}
 use Rattle.cli.specs.Parts.{Parts}
 use Rattle.cli.specs.Told.{OfBundle, of_one}

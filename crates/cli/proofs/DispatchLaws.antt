@@ -120,7 +120,7 @@ module _ {O : Type 0} (held : O → Option (List ℕ)) (failures : O → Failure
       check_first cert stop result h e = inl (record { stop = stop; at = inl h; told = e; unwritten = refl })
 
       module _ (b : List ℕ) (of_bundle : HasBundle native folder bundle b) (later : Option Folder) (same : later ≡ folder) where
-        second : (names : List (List ℕ)) (stop : Stop) → StopsAt later filter stop
+        pub second : (names : List (List ℕ)) (stop : Stop) → StopsAt later filter stop
             → FirstUnread folder (bundle ∷ filter ∷ names) stop
         second names stop h =
             behind folder bundle of_bundle.file (filter ∷ names) stop of_bundle.is (inl (subst (λ d. StopsAt d filter stop) same h))

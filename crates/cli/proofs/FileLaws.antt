@@ -124,7 +124,7 @@ module _ (native : Arch) (bundle filter f : List ℕ) (enough : IsEnough 32768 f
     tells_all_of_file result (inr lacks) = inr lacks
 
     -- what is written where no stub was found in the bytes that were read
-    whole_behind : (answered : List Calls) (whole : Bool) (result : Result Bool WriteFault)
+    pub whole_behind : (answered : List Calls) (whole : Bool) (result : Result Bool WriteFault)
         → WritesBehind held failures old new native bundle f f answered whole result
         → Certifies held failures old new native bundle filter result
     whole_behind answered true result h = certified_of_file result h

@@ -10,10 +10,15 @@ mod WantedLaws
 mod FormLaws
 mod BundleLaws
 mod DispatchLaws
+mod BesideLaws
+mod WidenLaws
 mod UnbegunLaws
+mod RemarkLaws
 mod ExplainedLaws
 mod StatusLaws
 mod LogLaws
 mod ReadLaws
 mod AuditLaws
 mod PartLaws
+pub mod ObjectLaws
+mod ButLaws

@@ -19,10 +19,11 @@ use Rattle.strace_logs.specs.declared.reading.Shown.{Shown}
 use Rattle.strace_logs.specs.Taken.{HaveShown}
 use Rattle.cli.specs.declared.stops.Stop.{Stop}
 use Rattle.cli.specs.declared.stops.Stop.TheVariants.{Usage, CannotRead, Read, Write, OutOfMemory, Refused}
-use Rattle.cli.specs.Dispatch.{AnswersLearn, AnswersLogs, AnswersNamed, FirstUnread, HaveBytes, StopsAtLog}
+use Rattle.cli.specs.Dispatch.{AnswersBoth, AnswersFrom, AnswersLearn, AnswersLogs, AnswersNamed, AnswersWidened, FirstUnread, HaveBytes, StopsAtLog}
+use Rattle.cli.specs.Widened.{from_in, rest_of}
 use Rattle.cli.specs.Files.{Folder, HasBundle, HasBytes, IsOpened}
 use Rattle.cli.specs.Told.{IsReplayed}
-use Rattle.cli.specs.inner.Telling.{IsInForm, IsLearnedBundleOf, IsLearnedFrom, IsLearnedOf, IsToldOf, ShowEach, ShowsMore, StopsAtName, TellsOn, told_in}
+use Rattle.cli.specs.inner.Telling.{IsInForm, IsLearnedBundleOf, IsLearnedBy, IsLearnedFrom, IsLearnedOf, IsToldOf, IsWidenedFrom, IsWidenedOf, ShowEach, ShowsMore, StopsAtName, TellsOn, told_in}
 use Rattle.cli.proofs.DispatchLaws.{behind, now_of, read_on}
 use Rattle.cli.proofs.FormLaws.{stopped_in}
 use Rattle.cli.proofs.TurnLaws.{cut_at}
@@ -177,11 +178,44 @@ module _ {O : Type 0} (held : O → Option (List ℕ)) (failures : O → Failure
   answers_named as_bundle words made told (inr (inr (logs, runtime, otherwise, asks, is))) form h =
       inr (inr (logs, runtime, otherwise, asks, answers_logs as_bundle logs runtime otherwise made told is form h))
 
+  answers_both : (as_bundle : Bool) (profile : List ℕ) (logs : List (List ℕ)) (runtime : Option Runtime) (otherwise : Otherwise)
+      (made told : Result Told Stop) → IsWidenedFrom folder native profile logs runtime otherwise made → IsInForm native as_bundle made told
+      → TellsOn held failures old new told result
+      → AnswersBoth held failures folder old new native as_bundle profile logs runtime otherwise result
+  answers_both as_bundle profile logs runtime otherwise (Ok made) (Ok told) (file, texts, of_file, of_logs, is) form h =
+      inr (file, texts, told, of_file, of_logs, record { made = made; is = is; written = form }, h)
+  answers_both as_bundle profile logs runtime otherwise (Ok made) (Err stop) is form h =
+      inl (stop, inr (subst (λ s. StopsAtLog folder logs s) (sym form) tt), h.0, h.1)
+  answers_both as_bundle profile logs runtime otherwise (Err stop) told at form h =
+      let stopped = subst (λ t. TellsOn held failures old new t result) form h in inl (stop, at, stopped.0, stopped.1)
+
+  answers_widened : (as_bundle : Bool) (profile : List ℕ) (words : List (List ℕ)) (made told : Result Told Stop)
+      → IsWidenedOf folder native profile words made → IsInForm native as_bundle made told → TellsOn held failures old new told result
+      → AnswersWidened held failures folder old new native as_bundle profile words result
+  answers_widened as_bundle profile words made told (inl is) form h =
+      inl (subst (λ t. TellsOn held failures old new t result) (stopped_in native as_bundle made told Usage is form) h)
+  answers_widened as_bundle profile words made told (inr (inl is)) form h =
+      inr (inl (subst (λ t. TellsOn held failures old new t result) (stopped_in native as_bundle made told OutOfMemory is form) h))
+  answers_widened as_bundle profile words made told (inr (inr (logs, runtime, otherwise, asks, is))) form h =
+      inr (inr (
+        logs,
+        runtime,
+        otherwise,
+        asks,
+        answers_both as_bundle profile logs runtime (rest_of words otherwise) made told is form h,
+      ))
+
+  answers_from : (as_bundle : Bool) (from : Option (List ℕ × List (List ℕ))) (words : List (List ℕ)) (made told : Result Told Stop)
+      → IsLearnedBy folder native from words made → IsInForm native as_bundle made told → TellsOn held failures old new told result
+      → AnswersFrom held failures folder old new native as_bundle from words result
+  answers_from as_bundle (Some from) words made told is form h = answers_widened as_bundle from.0 from.1 made told is form h
+  answers_from as_bundle None words made told is form h = answers_named as_bundle words made told is form h
+
   pub answers_learned : (words : List (List ℕ)) (both : Result Both Stop) → IsLearnedOf folder native words (told_in both)
       → TellsOn held failures old new (told_in both) result → AnswersLearn held failures folder old new native words result
   answers_learned words both is h = (
     is.others,
     is.as_bundle,
     is.named,
-    answers_named is.as_bundle is.others is.made (told_in both) is.is_made is.written h,
+    answers_from is.as_bundle (from_in is.others) is.others is.made (told_in both) is.is_made is.written h,
   )

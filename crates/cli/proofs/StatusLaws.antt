@@ -13,12 +13,16 @@ use Rattle.maker.specs.declared.check.Finding.TheVariants.{Yes, No, NoProfile}
 use Rattle.cli.specs.declared.stops.Stop.{Stop}
 use Rattle.cli.specs.declared.stops.Stop.TheVariants.{Usage, CannotRead, Read, Write, OutOfMemory, Refused}
 use Rattle.command_line.specs.declared.prose.Command.TheVariants.{Certify, Check, Run}
-use Rattle.cli.specs.Dispatch.{AnswersAllBehind, AnswersBehind, AnswersCertify, AnswersCheck, AnswersRun, Does}
-use Rattle.cli.specs.Parts.{native_of}
+use Rattle.aside.specs.declared.leave.Leave.{Leave}
+use Rattle.aside.specs.Judged.{stub_calls}
+use Rattle.aside.specs.Told.{CertifiesBut, CertifiesBy, WritesAllBut, WritesBut}
+use Rattle.cli.specs.Dispatch.{AnswersAllBehind, AnswersAsked, AnswersBehind, AnswersBut, AnswersCertify, AnswersCheck, AnswersRun, Does}
+use Rattle.cli.specs.Dispatch.{asks_but, leave_of}
+use Rattle.cli.specs.Parts.{Parts, native_of, parts_of}
 use Rattle.cli.specs.Files.{Folder, HasBundle, HasBytes}
 use Rattle.cli.specs.Running.{HasAnswered, told_line}
 use Rattle.cli.specs.Headline.{IsAnswerTo}
-use Rattle.cli.specs.Statuses.{AreRight, AreRightBehind, HasRun}
+use Rattle.cli.specs.Statuses.{AreRight, AreRightAtLeast, AreRightBehind, HasRun}
 use Rattle.cli.specs.Stop.{status_of}
 use Rattle.cli.proofs.HeadlineLaws.{headline}
 use Rattle.cli.proofs.RunLaws.{script_is_answered}
@@ -144,6 +148,56 @@ module _ {O : Type 0} (held : O → Option (List ℕ)) (failures : O → Failure
       go (Ok done) (inr lacks) e = let no = lacks.0 in absurd (cc)
       go (Err fault) (inr lacks) e = absurd (no_error e)
 
+  -- that others are right was written, or what is written where nothing is left aside
+  module _ (folder : Option Folder) (bundle filter b f : List ℕ) (of_bundle : HasBundle native folder bundle b)
+      (of_filter : HasBytes folder filter f) (leave : Leave) where
+    in_three : AreRight folder native bundle filter ⊎ AreRightBehind folder native bundle filter
+        → AreRightAtLeast folder native bundle filter leave
+    in_three (inl right) = inl right
+    in_three (inr right) = inr (inl right)
+
+    right_but : (h : CertifiesBy held failures old new native b f leave (Ok true)) → (answer : Result Bool WriteFault) → answer ≡ Ok true
+        → WritesBut held failures old new native b f (stub_calls h.whole h.answered) h.aside answer
+        → AreRightAtLeast folder native bundle filter leave
+    right_but h answer e (inl right) = inr (inr (record {
+      b = b;
+      f = f;
+      bundle_has = of_bundle;
+      filter_has = of_filter;
+      answered = stub_calls h.whole h.answered;
+      aside = h.aside;
+      left = h.left;
+      right = right.right;
+    }))
+    right_but h (Ok done) e (inr (inl found)) = let no : done ≡ false = found.told in absurd (cc)
+    right_but h (Ok done) e (inr (inr (inl undecided))) = let no : done ≡ false = undecided.told in absurd (cc)
+    right_but h (Ok done) e (inr (inr (inr lacks))) = let no = lacks.0 in absurd (cc)
+    right_but h (Err fault) e written = absurd (cc)
+
+    all_but : (h : CertifiesBy held failures old new native b f leave (Ok true)) → (answer : Result Bool WriteFault) → answer ≡ Ok true
+        → WritesAllBut held failures old new native b f (stub_calls h.whole h.answered) h.aside answer → ⊥
+    all_but h (Ok done) e all = let no : done ≡ false = all.written.told in absurd (cc)
+    all_but h (Err fault) e all = absurd (cc)
+
+    but : (answer : Result Bool WriteFault) → CertifiesBut held failures old new native b f leave answer → Ok true ≡ told_line answer
+        → AreRightAtLeast folder native bundle filter leave
+    but (Ok true) (inl h) e = elim h.written [
+      | inl none ↦
+          in_three (behind folder bundle filter b f h.rest h.answered h.whole (Ok true) of_bundle of_filter none.1 refl)
+      | inr (inl some) ↦ right_but h (Ok true) refl some.1
+      | inr (inr all) ↦ absurd (all_but h (Ok true) refl all)
+    ]
+    but (Ok false) h e = absurd (cc)
+    but (Ok true) (inr lacks) e = let no = lacks.0 in absurd (cc)
+    but (Err fault) h e = absurd (no_error e)
+
+  but_told : (folder : Option Folder) (bundle filter : List ℕ) (leave : Leave)
+      → AnswersBut held failures folder old new native bundle filter leave (Ok true)
+      → AreRightAtLeast folder native bundle filter leave
+  but_told folder bundle filter leave (inl stops) = absurd (no_error stops.told)
+  but_told folder bundle filter leave (inr (b, f, of_bundle, of_filter, by)) =
+      but folder bundle filter b f of_bundle of_filter leave by.answer by.written by.told
+
 -- the answer to a script, where it is known what was read and written
 known : (native : Arch) (texts : List (List ℕ)) (left left' held held' : Option (List ℕ)) → HasAnswered native texts left left' held held'
     → (script before after : List ℕ) → left ≡ Some script → held ≡ Some before → held' ≡ Some after
@@ -191,6 +245,15 @@ module _ {I O : Type 0} (left : I → Option (List ℕ)) (given : I → Failures
       → AreRight folder (native_of machine) bundle filter ⊎ AreRightBehind folder (native_of machine) bundle filter
   all_behind_is_right machine bundle filter (inl none) = absurd (no_error none.stops)
   all_behind_is_right machine bundle filter (inr does) = all_behind_told held taken out out' (native_of machine) folder bundle filter does.1
+
+  pub but_is_right : (machine bundle filter : List ℕ) (words : List (List ℕ)) → asks_but (parts_of (machine ∷ bundle ∷ filter ∷ words)) ≡ true
+      → Does left given held taken folder input input' out out' (Certify, machine ∷ bundle ∷ filter ∷ words) (Ok true)
+      → AreRightAtLeast folder (native_of machine) bundle filter (leave_of (parts_of (machine ∷ bundle ∷ filter ∷ words)))
+  but_is_right machine bundle filter words asks (inl none) = absurd (no_error none.stops)
+  but_is_right machine bundle filter words asks (inr does) =
+      let p : Parts = parts_of (machine ∷ bundle ∷ filter ∷ words) in
+      but_told held taken out out' (native_of machine) folder bundle filter (leave_of p)
+      (subst (λ (b : Bool). AnswersAsked held taken folder out out' b p (Ok true)) asks does.1)
 
   pub run_is_answered : (machine : List ℕ) (bundles : List (List ℕ))
       → Does left given held taken folder input input' out out' (Run, machine ∷ bundles) (Ok true)

@@ -1,5 +1,5 @@
 -- Commands that are not begun, and the ends of the program that follow.
-use Rattle.std.proofs.Common.{◌≡◌, ◌⊎◌, ◌∙◌, ℕ, inl, inr, List, [], ◌∷◌, refl, subst, sym, ⊎_elim}
+use Rattle.std.proofs.Common.{◌≡◌, ◌⊎◌, ℕ, inl, inr, List, refl, subst, sym}
 use Rattle.std.specs.Prelude.{Bool, Option, Result, Ok, Err}
 use Rattle.texts.specs.Failures.{Failures}
 use Rattle.command_line.specs.Lines.{Given, Reads, given, texts}
@@ -10,8 +10,9 @@ use Rattle.command_line.specs.declared.reading.Misuse.{Misuse}
 use Rattle.command_line.specs.declared.reading.Misuse.TheVariants as kind
 use Rattle.cli.specs.declared.stops.Stop.{Stop}
 use Rattle.cli.specs.declared.stops.Stop.TheVariants.{Usage, CannotRead, Read, Write, OutOfMemory, Refused}
-use Rattle.cli.specs.Dispatch.{Does, ExplainsBy, ExplainsWhy, IsMisuse, Tells, TellsMisuse, TellsRefusal}
+use Rattle.cli.specs.Dispatch.{AskedRefusal, Does, ExplainsBy, ExplainsWhy, IsMisuse, Tells, TellsMisuse}
 use Rattle.cli.specs.Files.{Folder}
+use Rattle.cli.specs.Remarked.{RemarksBy, RemarksOf}
 use Rattle.cli.specs.Stop.{ReportsOn, status_of, stop_at_misuse}
 
 module _ {I O : Type 0} (left : I → Option (List ℕ)) (taking : I → Failures) (held : O → Option (List ℕ)) (taken : O → Failures)
@@ -68,16 +69,21 @@ module _ {E : Type 0} (held : E → Option (List ℕ)) (failures : E → Failure
   reported stop other stopped lines =
       subst (λ e. ReportsOn held failures e new arguments stop) (unchanged stop other stopped) (lines (is_other stop other))
 
-  pub tells_stop : (command : Given) (stop : Stop) → (ended stop ≡ ended Refused) ⊎ (between ≡ old)
-      → (ended stop ≡ ended Refused → TellsRefusal command.0 (parts_of command.1) ⊎ (between ≡ old)) → (stop ≡ Refused → new ≡ between)
-      → ((stop ≡ Refused → ⊥) → ReportsOn held failures between new arguments stop)
-      → Tells held failures old new arguments command (ended stop)
-  tells_stop command Refused stopped refused quiet lines = ⊎_elim inl (λ e. inr (quiet refl ∙ e)) (refused refl)
-  tells_stop command Usage stopped refused quiet lines = reported Usage tt stopped lines
-  tells_stop command OutOfMemory stopped refused quiet lines = reported OutOfMemory tt stopped lines
-  tells_stop command (CannotRead name) stopped refused quiet lines = reported (CannotRead name) tt stopped lines
-  tells_stop command (Read line) stopped refused quiet lines = reported (Read line) tt stopped lines
-  tells_stop command (Write out) stopped refused quiet lines = reported (Write out) tt stopped lines
+  -- what is told, and then the lines on files that are no bundles
+  abbrev pub Ends : Given → Stop → Type 0
+  Ends command stop =
+      (told : E) × Tells held failures old told arguments command (ended stop) × RemarksBy held failures command (ended stop) told new
+
+  pub ends_stop : (command : Given) (stop : Stop) → (ended stop ≡ ended Refused) ⊎ (between ≡ old)
+      → (ended stop ≡ ended Refused → AskedRefusal command ⊎ (between ≡ old))
+      → (stop ≡ Refused → RemarksOf held failures command between new)
+      → ((stop ≡ Refused → ⊥) → ReportsOn held failures between new arguments stop) → Ends command stop
+  ends_stop command Refused stopped refused remarks lines = (between, refused refl, remarks refl)
+  ends_stop command Usage stopped refused remarks lines = (new, reported Usage tt stopped lines, refl)
+  ends_stop command OutOfMemory stopped refused remarks lines = (new, reported OutOfMemory tt stopped lines, refl)
+  ends_stop command (CannotRead name) stopped refused remarks lines = (new, reported (CannotRead name) tt stopped lines, refl)
+  ends_stop command (Read line) stopped refused remarks lines = (new, reported (Read line) tt stopped lines, refl)
+  ends_stop command (Write out) stopped refused remarks lines = (new, reported (Write out) tt stopped lines, refl)
 
   pub tells_misuse : (stop : Stop) (status : ℕ) → IsMisuse (Err stop) → status ≡ status_of stop
       → (ended stop ≡ ended Refused) ⊎ (between ≡ old) → ((stop ≡ Refused → ⊥) → ReportsOn held failures between new arguments stop)

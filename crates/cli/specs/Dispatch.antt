@@ -1,15 +1,17 @@
 -- THE PROGRAM. What it writes and the status that it ends with, of a command, of files, and of what is read on standard input.
-use Rattle.std.specs.Prelude.{ℕ, ◌≡◌, ◌⊎◌, ◌||◌, Bool, true, false, nat_eq, List, [], ◌∷◌, ◌++◌, codes}
+use Rattle.std.specs.Prelude.{ℕ, ◌≡◌, ◌⊎◌, ◌||◌, Bool, true, false, List, [], ◌∷◌, ◌++◌, codes}
 use Rattle.std.specs.Prelude.{if◌then◌else◌, Option, Some, None, Result, Ok, Err}
-use Rattle.std.specs.List.{starts_with}
 use Rattle.std.specs.Str.{bytes_eq}
 use Rattle.call_tables.specs.declared.arch.Arch.{Arch}
-use Rattle.command_line.specs.Lines.{Given}
+use Rattle.command_line.specs.Lines.{Given, IsCommandLine, NoCommandLine, command_of, texts}
+use denote.Ref.{Bor}
 use Rattle.command_line.specs.declared.prose.Command.{Command}
 use Rattle.command_line.specs.declared.prose.Command.TheVariants.{Verdict, Check, Certify, Export, Run, Explain, Record, Assemble}
 use Rattle.command_line.specs.declared.prose.Command.TheVariants.{Read, Annotate, Draw, Lint, Compare, Adapt, Learn}
-use Rattle.command_line.specs.declared.prose.Command.TheVariants.{Replay, Recover, Tune, Join, Meet, Stack, Review, Manual, Version}
-use Rattle.cli.specs.Parts.{Parts, form_of, parts_of}
+use Rattle.command_line.specs.declared.prose.Command.TheVariants.{Replay, Recover, Tune, Join, Meet, Stack, Review, Json, Manual, Version}
+use Rattle.aside.specs.declared.leave.Leave.{Leave}
+use Rattle.aside.specs.Told.{CertifiesBut}
+use Rattle.cli.specs.Parts.{Parts, form_of, part, parts_of}
 use Rattle.texts.specs.Failures.{Failures}
 use Rattle.texts.specs.Sink.{StopsAt as StopsWriting, Wrote}
 use Rattle.texts.specs.declared.streams.fault.WriteFault.{WriteFault}
@@ -21,7 +23,7 @@ use Rattle.explain.specs.Audit.{IsAudited}
 use Rattle.show.specs.Shown.{IsAnnotated, IsDrawn}
 use Rattle.compare.specs.Behind.{CertifiesAllBehind, CertifiesBehind}
 use Rattle.compare.specs.Convictions.{TellsAll}
-use Rattle.compare.specs.Told.{IsCompared}
+use Rattle.cli.specs.Compared.{TellsCompared}
 use Rattle.compare.specs.FiltersTold.{IsTold}
 use Rattle.strace_logs.specs.Given.{GivesAll}
 use Rattle.strace_logs.specs.Learned.{TellsLearned}
@@ -37,6 +39,8 @@ use Rattle.cli.specs.declared.stops.Stop.TheVariants.{CannotRead, OutOfMemory, R
 use Rattle.cli.specs.Explained.{TellsAllBehind, TellsBehind, TellsRecord}
 use Rattle.cli.specs.Adapted.{AskNothing, IsMadeAs}
 use Rattle.cli.specs.Read.{TellsLinted, TellsRead, TellsRules}
+use Rattle.cli.specs.Refusal.{is_refusal}
+use Rattle.cli.specs.Remarked.{RemarksBy}
 use Rattle.cli.specs.Recovered.{TellsRecovered}
 use Rattle.cli.specs.Tuned.{TellsTuned}
 use Rattle.review.specs.Reviewed.{IsReviewed}
@@ -44,9 +48,11 @@ use Rattle.cli.specs.Combined.{TellsCombined, TellsStack}
 use Rattle.together.specs.declared.way.Way.{Way}
 use Rattle.together.specs.declared.way.Way.TheVariants.{Laxest, Strictest}
 use Rattle.cli.specs.Told.{IsManual, IsNoCommand, IsReplayed, NamesLogs, of_none, of_one, of_two, OfArguments, OfBundle, OfBundles, OfEach}
+use Rattle.cli.specs.Widened.{TellsWidened, from_in, rest_of}
 use Rattle.cli.specs.Written.{NamesForm, WritesMade}
 use Rattle.cli.specs.Files.{CannotBeRead, Folder, HasBundle, HasBytes, HasEnough}
 use Rattle.cli.specs.Input.{StopsInput}
+use Rattle.cli.specs.Json.{Kept, WritesObjects, is_json, kept, kept_failures}
 use Rattle.cli.specs.Running.{RunsBundles, told_line}
 use Rattle.cli.specs.Stop.{ReportsOn, status_of}
 
@@ -97,15 +103,23 @@ exit_status (Ok true) = 0
 exit_status (Ok false) = 1
 exit_status (Err stop) = status_of stop
 
--- one of the two words behind the files of `certify`
+-- one of the words behind the files of `certify`
 abbrev pub asks : List ℕ → Parts → Bool
-asks word p = bytes_eq p.four word || bytes_eq p.five word
+asks word p = bytes_eq p.four word || (bytes_eq p.five word || (bytes_eq p.six word || bytes_eq p.seven word))
 
 abbrev pub asks_runc : Parts → Bool
 asks_runc = asks (codes "runc")
 
 abbrev pub asks_all : Parts → Bool
 asks_all = asks (codes "all")
+
+-- the calls that may be left aside
+abbrev pub leave_of : Parts → Leave
+leave_of p = record { unnamed = asks (codes "calls") p; x32 = asks (codes "without-x32") p }
+
+-- some may be
+abbrev pub asks_but : Parts → Bool
+asks_but p = (leave_of p).unnamed || (leave_of p).x32
 
 -- `adapt` and `learn` tell on standard error what they changed or added, `recover`, `join`, `meet` and `stack` which form was written or
 -- why none was, `tune` what calls cost, and `certify` with `runc` what the stub answers, also where it was done; no other command does
@@ -125,13 +139,27 @@ abbrev pub TellsRefusal : Command → Parts → Type 0
 TellsRefusal Certify p = Unit {0}
 TellsRefusal other p = TellsChanges other p
 
+-- `json` tells what the command behind it does
+abbrev pub OfInner : (Command → Parts → Type 0) → List (List ℕ) → Type 0
+OfInner Is words = (inner : Given) × (command_of words ≡ Some inner) × Is inner.0 (parts_of inner.1)
+
+abbrev pub OfAsked : (Command → Parts → Type 0) → Bool → Given → Type 0
+OfAsked Is true given = OfInner Is given.1
+OfAsked Is false given = Is given.0 (parts_of given.1)
+
+abbrev pub AskedChanges : Given → Type 0
+AskedChanges given = OfAsked TellsChanges (is_json given.0) given
+
+abbrev pub AskedRefusal : Given → Type 0
+AskedRefusal given = OfAsked TellsRefusal (is_json given.0) given
+
 -- What is on standard error: nothing but changes where the answer is yes, nothing but these and an explanation where it is no, and the
 -- line that says why where the program stopped.
 abbrev pub Tells : {E : Type 0} → (E → Option (List ℕ)) → (E → Failures) → E → E → List (List ℕ) → Given → Result Bool Stop
     → Type 0
-Tells held failures old new arguments given (Ok true) = TellsChanges given.0 (parts_of given.1) ⊎ (new ≡ old)
-Tells held failures old new arguments given (Ok false) = TellsRefusal given.0 (parts_of given.1) ⊎ (new ≡ old)
-Tells held failures old new arguments given (Err Refused) = TellsRefusal given.0 (parts_of given.1) ⊎ (new ≡ old)
+Tells held failures old new arguments given (Ok true) = AskedChanges given ⊎ (new ≡ old)
+Tells held failures old new arguments given (Ok false) = AskedRefusal given ⊎ (new ≡ old)
+Tells held failures old new arguments given (Err Refused) = AskedRefusal given ⊎ (new ≡ old)
 Tells held failures old new arguments given (Err stop) = ReportsOn held failures old new arguments stop
 
 -- a file is not read: the program stops there, and nothing is written
@@ -147,14 +175,6 @@ pub record AnswersBy (Writes : Result Bool WriteFault → Type 0) (result : Resu
   pub answer : Result Bool WriteFault
   pub written : Writes answer
   pub told : result ≡ told_line answer
-
--- what was given could not be read, as the first words of the answer say: a profile, a filter, a listing, a call, logs, lines, counts
-abbrev pub is_refusal : List ℕ → Bool
-is_refusal bytes =
-    starts_with nat_eq bytes (codes "refused profile ") || (starts_with nat_eq bytes (codes "refused view ")
-    || (starts_with nat_eq bytes (codes "refused kernel ") || (starts_with nat_eq bytes (codes "refused listing ")
-    || (starts_with nat_eq bytes (codes "refused call") || (starts_with nat_eq bytes (codes "refused log ")
-    || (starts_with nat_eq bytes (codes "refused lines") || starts_with nat_eq bytes (codes "refused counts ")))))))
 
 -- how a command ends, by whether it was done, and whether its answer is that what was given is refused
 abbrev pub outcome_by : Bool → Bool → Result Bool Stop
@@ -213,6 +233,13 @@ module _ {O : Type 0} (held : O → Option (List ℕ)) (failures : O → Failure
       × AnswersBy (λ answer. Certifies held failures old new native b f answer
       ⊎ TellsAll held failures old new native b f answer) result)
 
+  -- with `calls` or `without-x32`, whatever else is asked
+  abbrev pub AnswersBut : Arch → List ℕ → List ℕ → Leave → Result Bool Stop → Type 0
+  AnswersBut native bundle filter leave result =
+      StopsAtFile folder old new (bundle ∷ filter ∷ []) result
+      ⊎ ((b : List ℕ) × (f : List ℕ) × HasBundle native folder bundle b × HasBytes folder filter f
+      × AnswersBy (CertifiesBut held failures old new native b f leave) result)
+
   abbrev pub AnswersExport : Arch → List ℕ → Form → Result Bool Stop → Type 0
   AnswersExport native bundle form result =
       StopsAtFile folder old new (bundle ∷ []) result
@@ -232,6 +259,11 @@ module _ {O : Type 0} (held : O → Option (List ℕ)) (failures : O → Failure
   AnswersCertified false true p result = AnswersAll p.native p.two p.three result
   AnswersCertified false false p result = AnswersCertify p.native p.two p.three result
 
+  -- the same, by whether calls may be left aside
+  abbrev pub AnswersAsked : Bool → Parts → Result Bool Stop → Type 0
+  AnswersAsked true p result = AnswersBut p.native p.two p.three (leave_of p) result
+  AnswersAsked false p result = AnswersCertified (asks_runc p) (asks_all p) p result
+
   -- what `read` tells, by whether `rules` stands behind the file
   abbrev pub AnswersRead : Bool → Parts → Result Bool Stop → Type 0
   AnswersRead true p result = AnswersTold (p.two ∷ []) (of_one (OfBundle p.native (TellsRules p.native))) result
@@ -241,7 +273,7 @@ module _ {O : Type 0} (held : O → Option (List ℕ)) (failures : O → Failure
   abbrev pub AnswersCompare : Bool → Parts → Result Bool Stop → Type 0
   AnswersCompare true p result = AnswersTold (p.two ∷ p.three ∷ []) (of_two IsTold) result
   AnswersCompare false p result = AnswersTold (p.two ∷ p.three ∷ [])
-      (of_two (OfBundles p.native (IsCompared (bytes_eq p.four (codes "atmost")) p.native))) result
+      (of_two (OfBundles p.native (TellsCompared (bytes_eq p.four (codes "atmost")) p.native))) result
 
   -- the program stops at words that ask for nothing, and nothing is written
   abbrev pub StopsAtWords : Result Bool Stop → Type 0
@@ -279,10 +311,31 @@ module _ {O : Type 0} (held : O → Option (List ℕ)) (failures : O → Failure
       ⊎ ((logs : List (List ℕ)) × (runtime : Option Runtime) × (otherwise : Otherwise) × AskFor words logs runtime otherwise
       × AnswersLogs native as_bundle logs runtime otherwise result))
 
+  -- What it writes of a profile and logs: nothing where it stops at one of the files; or what is told of their bytes.
+  abbrev pub AnswersBoth : Arch → Bool → List ℕ → List (List ℕ) → Option Runtime → Otherwise → Result Bool Stop → Type 0
+  AnswersBoth native as_bundle profile logs runtime otherwise result =
+      ((stop : Stop) × (StopsAt folder profile stop ⊎ StopsAtLog folder logs stop) × (result ≡ Err stop) × (new ≡ old))
+      ⊎ ((file : List ℕ) × (texts : List (List ℕ)) × (told : Told) × HasBytes folder profile file × HaveBytes folder logs texts
+      × WritesMade native as_bundle (TellsWidened native file texts runtime otherwise) told × WritesTold held failures old new told result)
+
+  -- the same of the logs that the words behind the profile name
+  abbrev pub AnswersWidened : Arch → Bool → List ℕ → List (List ℕ) → Result Bool Stop → Type 0
+  AnswersWidened native as_bundle profile words result =
+      StopsAtWords result
+      ⊎ (StopsForMemory result
+      ⊎ ((logs : List (List ℕ)) × (runtime : Option Runtime) × (otherwise : Otherwise) × AskFor words logs runtime otherwise
+      × AnswersBoth native as_bundle profile logs runtime (rest_of words otherwise) result))
+
+  -- what is learned by words: with a profile behind `from` from both, and else from logs alone
+  abbrev pub AnswersFrom : Arch → Bool → Option (List ℕ × List (List ℕ)) → List (List ℕ) → Result Bool Stop → Type 0
+  AnswersFrom native as_bundle (Some from) words result = AnswersWidened native as_bundle from.0 from.1 result
+  AnswersFrom native as_bundle None words result = AnswersNamed native as_bundle words result
+
   -- the same in the form that the words ask for
   abbrev pub AnswersLearn : Arch → List (List ℕ) → Result Bool Stop → Type 0
   AnswersLearn native words result =
-      (others : List (List ℕ)) × (as_bundle : Bool) × NamesForm words others as_bundle × AnswersNamed native as_bundle others result
+      (others : List (List ℕ)) × (as_bundle : Bool) × NamesForm words others as_bundle
+      × AnswersFrom native as_bundle (from_in others) others result
 
   -- the profile that a filter means, in the form that is asked for
   abbrev pub AnswersRecovered : Arch → Bool → List ℕ → Result Bool Stop → Type 0
@@ -355,7 +408,7 @@ module _ {I O : Type 0} (left : I → Option (List ℕ)) (given : I → Failures
   abbrev pub DoesWith : Command → Parts → Result Bool Stop → Type 0
   DoesWith Verdict p result = (input' ≡ input) × AnswersVerdict held taken folder out out' p.one p.two result
   DoesWith Check p result = (input' ≡ input) × AnswersCheck held taken folder out out' p.native p.two p.three p.four result
-  DoesWith Certify p result = (input' ≡ input) × AnswersCertified held taken folder out out' (asks_runc p) (asks_all p) p result
+  DoesWith Certify p result = (input' ≡ input) × AnswersAsked held taken folder out out' (asks_but p) p result
   DoesWith Export p result = (input' ≡ input) × AnswersExport held taken folder out out' p.native p.two (form_of p.three) result
   DoesWith Run p result = AnswersRun p.native p.from_two result
   DoesWith Explain p result = AnswersExplain p result
@@ -380,6 +433,7 @@ module _ {I O : Type 0} (left : I → Option (List ℕ)) (given : I → Failures
   DoesWith Stack p result = (input' ≡ input) × AnswersStack held taken folder out out' p.native p.from_two result
   DoesWith Review p result =
       (input' ≡ input) × AnswersTold held taken folder out out' (p.two ∷ []) (of_one (OfBundle p.native (IsReviewed p.native))) result
+  DoesWith Json p result = (input' ≡ input) × StopsAtWords held taken folder out out' result
   DoesWith Manual p result = (input' ≡ input) × AnswersManual held taken folder out out' p.first result
   DoesWith Version p result = (input' ≡ input) × AnswersTold held taken folder out out' [] (of_none IsVersion) result
 
@@ -389,8 +443,37 @@ module _ {I O : Type 0} (left : I → Option (List ℕ)) (given : I → Failures
     pub unread : input' ≡ input
     pub unwritten : out' ≡ out
 
+-- What `json` does as the command behind it, whose answer is kept: it writes the objects of this answer.
+module _ {I O : Type 0} (left : I → Option (List ℕ)) (given : I → Failures) (held : O → Option (List ℕ)) (taken : O → Failures)
+    (folder : Option Folder) (input input' : I) (out out' : O) where
+  pub record AnswersObjects (inner : Given) (name : List ℕ) (result : Result Bool Stop) : Type 0 where
+    pub outcome : Result Bool Stop
+    pub before : Kept
+    pub answer : Kept
+    pub empty : before.writer.items ≡ []
+    pub does : DoesWith left given kept kept_failures folder input input' before answer inner.0 (parts_of inner.1) outcome
+    pub writes : WritesObjects held taken out out' inner.0 name answer.writer.items outcome result
+
+  -- the program stops since what stands behind `json` is no command
+  pub record StopsBefore (result : Result Bool Stop) : Type 0 where
+    pub stops : result ≡ Err Usage
+    pub unread : input' ≡ input
+    pub unwritten : out' ≡ out
+
+  -- the same of arguments, wherever they lie in memory
+  pub record DoesObjects (words : List (List ℕ)) (result : Result Bool Stop) : Type 0 where
+    pub lying : List (Bor (List ℕ))
+    pub same : texts lying ≡ words
+    pub of_command : (inner : Given) → IsCommandLine lying inner
+        → IsNotBegun left given held taken folder input input' out out' result ⊎ AnswersObjects inner (part 0 words) result
+    pub of_none : NoCommandLine lying → IsNotBegun left given held taken folder input input' out out' result ⊎ StopsBefore result
+
+  abbrev pub DoesAsked : Bool → Given → Result Bool Stop → Type 0
+  DoesAsked true asked result = DoesObjects asked.1 result
+  DoesAsked false asked result = DoesWith left given held taken folder input input' out out' asked.0 (parts_of asked.1) result
+
   abbrev pub Does : Given → Result Bool Stop → Type 0
-  Does given result = IsNotBegun result ⊎ DoesWith given.0 (parts_of given.1) result
+  Does asked result = IsNotBegun left given held taken folder input input' out out' result ⊎ DoesAsked (is_json asked.0) asked result
 
 -- What `certify` tells where its answer is no: nothing on standard error, or on standard output the line of a call record and on
 -- standard error an explanation of this very record.
@@ -422,8 +505,13 @@ module _ {O E : Type 0} (held : O → Option (List ℕ)) (taken : O → Failures
   ExplainsCertified false true p result = Unit {0}
   ExplainsCertified false false p result = ExplainsRecord p.native p.two result
 
+  -- nothing is said of what is explained where calls may be left aside
+  abbrev pub ExplainsAsked : Bool → Parts → Result Bool Stop → Type 0
+  ExplainsAsked true p result = Unit {0}
+  ExplainsAsked false p result = ExplainsCertified (asks_runc p) (asks_all p) p result
+
   abbrev pub ExplainsBy : Command → Parts → Result Bool Stop → Type 0
-  ExplainsBy Certify p result = ExplainsCertified (asks_runc p) (asks_all p) p result
+  ExplainsBy Certify p result = ExplainsAsked (asks_but p) p result
   ExplainsBy other p result = Unit {0}
 
   -- where the program stops, nothing is explained
@@ -431,15 +519,18 @@ module _ {O E : Type 0} (held : O → Option (List ℕ)) (taken : O → Failures
   ExplainsWhy command p (Ok done) = ExplainsBy command p (Ok done)
   ExplainsWhy command p (Err stop) = Unit {0}
 
--- The program did what a command asks for: its outcome, as the exit status and standard error tell it.
+-- The program did what a command asks for: its outcome, as the exit status and standard error tell it, and behind a no or a refusal lines
+-- on files that are no bundles.
 pub record Answers {I O E : Type 0} (left : I → Option (List ℕ)) (given : I → Failures) (held : O → Option (List ℕ))
     (taken : O → Failures) (shown : E → Option (List ℕ)) (dropped : E → Failures) (folder : Option Folder)
     (input input' : I) (out out' : O) (err err' : E) (arguments : List (List ℕ)) (command : Given) (status : ℕ) : Type 0 where
   pub outcome : Result Bool Stop
   pub does : Does left given held taken folder input input' out out' command outcome
   pub ends : status ≡ exit_status outcome
-  pub tells : Tells shown dropped err err' arguments command outcome
-  pub explained : ExplainsWhy held taken shown dropped folder out out' err err' command.0 (parts_of command.1) outcome
+  pub between : E
+  pub tells : Tells shown dropped err between arguments command outcome
+  pub explained : ExplainsWhy held taken shown dropped folder out out' err between command.0 (parts_of command.1) outcome
+  pub remarks : RemarksBy shown dropped command outcome between err'
 
 -- the program stops at arguments that are no command: since they are none, or for want of memory
 abbrev pub IsMisuse : Result Bool Stop → Type 0

@@ -4,6 +4,8 @@ pub mod Files
 pub mod Running
 pub mod Explained
 pub mod Adapted
+pub mod Refusal
+pub mod Compared
 pub mod Told
 pub mod Written
 pub mod Dispatch
@@ -14,5 +16,8 @@ pub mod Read
 pub mod Recovered
 pub mod Tuned
 pub mod Combined
+pub mod Widened
+pub mod Remarked
 pub mod Input
 pub mod Parts
+pub mod Json

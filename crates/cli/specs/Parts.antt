@@ -34,7 +34,7 @@ abbrev pub first : List Text → Option Text
 first [] = None
 first (argument ∷ others) = Some argument
 
--- The arguments in the order of the row: the machine that the first calls; the first, if there is one; the first five; all but the first;
+-- The arguments in the order of the row: the machine that the first calls; the first, if there is one; the first seven; all but the first;
 -- and all but the first two.
 pub record Parts : Type 0 where
   pub native : Arch
@@ -44,6 +44,8 @@ pub record Parts : Type 0 where
   pub three : Text
   pub four : Text
   pub five : Text
+  pub six : Text
+  pub seven : Text
   pub from_two : List Text
   pub from_three : List Text
 
@@ -56,6 +58,8 @@ parts_of arguments = record {
   three = part 2 arguments;
   four = part 3 arguments;
   five = part 4 arguments;
+  six = part 5 arguments;
+  seven = part 6 arguments;
   from_two = drop 1 arguments;
   from_three = drop 2 arguments;
 }
@@ -70,6 +74,8 @@ read parts = record {
   three = parts.three.now;
   four = parts.four.now;
   five = parts.five.now;
+  six = parts.six.now;
+  seven = parts.seven.now;
   from_two = texts parts.from_two.now;
   from_three = texts parts.from_three.now;
 }

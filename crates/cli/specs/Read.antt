@@ -1,6 +1,7 @@
 -- What `read` and `lint` tell of a bundle.
 use Rattle.std.specs.Prelude.{ℕ, ◌≡◌, ◌⊎◌, true, List, ◌++◌, codes}
 use Rattle.call_tables.specs.declared.arch.Arch.{Arch}
+use Rattle.constant_names.specs.Told.{AreNames}
 use Rattle.compare.specs.Hints.{IsUnhinted, SomeGetPast}
 use Rattle.compare.specs.Linted.{IsLinted}
 use Rattle.show.specs.Read.{IsReadOut}
@@ -8,6 +9,13 @@ use Rattle.show.specs.Unread.{RefusesUnread}
 use Rattle.wording.specs.Told.{RefusesBundle, TellsText}
 use Rattle.wording.specs.declared.told.Told.{Told}
 use Rattle.rules_text.specs.Text.{IsTextOf}
+
+-- behind what was told stand the lines of the names of constants
+pub record HasNames (native : Arch) (bundle : List ℕ) (inner told : Told) : Type 0 where
+  pub lines : List ℕ
+  pub names : AreNames native bundle lines
+  pub text : told.bytes.items ≡ inner.bytes.items ++ lines
+  pub done : told.done ≡ inner.done
 
 -- the line behind what a bundle means
 abbrev pub hint : List ℕ
@@ -19,18 +27,22 @@ pub record HasHint (inner told : Told) : Type 0 where
   pub meant : inner.done ≡ true
   pub done : told.done ≡ true
 
--- What the bundle means, or why it is refused. If the line stands behind what it means, some call gets past the bundle; if not,
--- there is a reason.
+-- What the bundle means, or why it is refused, and the names of constants. If the line stands behind these, some call gets past the
+-- bundle; if not, there is a reason.
 pub record TellsRead (native : Arch) (bundle : List ℕ) (told : Told) : Type 0 where
+  pub meaning : Told
+  pub is_read : IsReadOut native bundle meaning
   pub inner : Told
-  pub is_read : IsReadOut native bundle inner
+  pub named : HasNames native bundle meaning inner
   pub hinted : (HasHint inner told × SomeGetPast native bundle) ⊎ ((told ≡ inner) × (inner.done ≡ true → IsUnhinted native bundle))
 
--- what `lint` finds, and the lines of what is not read: it is done only if nothing is found, and all is read
+-- What `lint` finds, the lines of what is not read, and the names of constants. It is done only if nothing is found, and all is read.
 pub record TellsLinted (native : Arch) (bundle : List ℕ) (told : Told) : Type 0 where
+  pub found : Told
+  pub is_linted : IsLinted native bundle found
   pub inner : Told
-  pub is_linted : IsLinted native bundle inner
-  pub unread : RefusesUnread native bundle inner told
+  pub unread : RefusesUnread native bundle found inner
+  pub named : HasNames native bundle inner told
 
 -- it was done: the text of the profile that the bundle means
 pub record TellsProfile (native : Arch) (bundle : List ℕ) (told : Told) : Type 0 where

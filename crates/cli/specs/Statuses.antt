@@ -1,10 +1,12 @@
 -- THE HEADLINE, as a user meets it: what the status 0 of `check` and of `run` says of the files that are named.
-use Rattle.std.specs.Prelude.{ℕ, ◌≡◌, ◌++◌, List, Option, Some}
+use Rattle.std.specs.Prelude.{ℕ, ◌≡◌, ◌⊎◌, ◌++◌, List, Option, Some}
 use Rattle.call_tables.specs.declared.arch.Arch.{Arch}
 use Rattle.bpf_insn.specs.Bytes.{insns_of}
 use Rattle.profile.specs.Policy.{Policy}
 use Rattle.compare.specs.Behind.{MeansRight}
 use Rattle.compare.specs.declared.behind_runc.stub.calls.Calls.{Calls}
+use Rattle.aside.specs.declared.leave.Leave.{Leave}
+use Rattle.aside.specs.Judged.{AreLeftOut, MeansRightBut}
 use Rattle.cli.specs.Dispatch.{HaveBundles}
 use Rattle.cli.specs.Files.{Folder, HasBundle, HasBytes}
 use Rattle.cli.specs.Headline.{IsAnswerTo, IsRightFor}
@@ -27,6 +29,23 @@ pub record AreRightBehind (folder : Option Folder) (native : Arch) (bundle filte
   pub filter_has : HasBytes folder filter f
   pub answered : List Calls
   pub right : MeansRight native b f answered
+
+-- The same, but for calls that are left aside, each with reason.
+pub record AreRightBut (folder : Option Folder) (native : Arch) (bundle filter : List ℕ) (leave : Leave) : Type 0 where
+  pub b : List ℕ
+  pub f : List ℕ
+  pub bundle_has : HasBundle native folder bundle b
+  pub filter_has : HasBytes folder filter f
+  pub answered : List Calls
+  pub aside : List Calls
+  pub left : AreLeftOut native b f leave aside
+  pub right : MeansRightBut native b f answered aside
+
+-- one of the three
+abbrev pub AreRightAtLeast : Option Folder → Arch → List ℕ → List ℕ → Leave → Type 0
+AreRightAtLeast folder native bundle filter leave =
+    AreRight folder native bundle filter
+    ⊎ (AreRightBehind folder native bundle filter ⊎ AreRightBut folder native bundle filter leave)
 
 -- The files are taken as bundles. Where it is known what the input had and the output has, the script that the input had was answered by
 -- the machine whose first judge for each container is its bundle's profile.

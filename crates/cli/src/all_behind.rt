@@ -49,8 +49,8 @@ fn tell_each<E: Sink>(alloc: Global, explainer: &Explainer, all: &[Conviction], 
     }
 }
 
-// The same, if there is memory to read the bundle once more.
-fn explain_each<E: Sink>(
+/// The same, if there is memory to read the bundle once more.
+pub(crate) fn explain_each<E: Sink>(
     alloc: Global,
     native: Arch,
     bundle: &[u8],

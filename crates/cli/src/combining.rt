@@ -50,8 +50,8 @@ fn untold(alloc: Global, native: Arch, why: &Uncombined) -> Result<Both, AllocEr
     })
 }
 
-// What bundles mean together.
-fn combined_of(
+/// What bundles mean together.
+pub(crate) fn combined_of(
     alloc: Global,
     native: Arch,
     way: Way,

@@ -7,8 +7,12 @@ mod all;
 mod all_behind;
 mod auditing;
 mod behind;
+mod beside;
+mod but;
+mod certifying;
 mod combining;
 mod comparing;
+mod ending;
 mod explaining;
 mod fault;
 mod files;
@@ -16,14 +20,18 @@ mod forms;
 mod law;
 mod logs;
 mod manual;
+mod naming;
+mod objects;
 mod parts;
 mod program;
 mod recovering;
+mod remarking;
 mod run;
 mod showing;
 mod stops;
 mod telling;
 mod tuning;
+mod widening;
 
 pub use command_line::{
     COMMANDS, Command, CommandLine, Count, Entry, Meaning, Misuse, Part, read_arguments,

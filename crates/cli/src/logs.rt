@@ -7,13 +7,15 @@ ghost use Rattle.strace_logs.specs.Taken.{HaveShown};
 ghost use Rattle.cli.specs.Dispatch.{StopsAtLog};
 ghost use Rattle.cli.specs.Files.{IsOpened};
 ghost use Rattle.cli.specs.Told.{IsReplayed, NamesLogs};
-ghost use Rattle.cli.specs.inner.Telling.{IsLearnedBundleOf, IsLearnedFrom, IsLearnedOf, IsReplayOf, IsToldOf, ShowEach, ShowsMore, StopsAtName, told_in};
+ghost use Rattle.cli.specs.Widened.{from_in as profile_in};
+ghost use Rattle.cli.specs.inner.Telling.{IsLearnedBundleOf, IsLearnedBy, IsLearnedFrom, IsLearnedOf, IsReplayOf, IsToldOf, ShowEach, ShowsMore, StopsAtName, told_in};
 
 use crate::adapting::Both;
 use crate::fault::FileFault;
 use crate::files::{Files, read_bundle, read_each};
 use crate::forms::{form_in, in_form};
 use crate::stops::Stop;
+use crate::widening::{from_in, widened};
 use call_tables::Arch;
 use std::alloc::{AllocError, Global};
 use strace_logs::{Keep, Learned, Log, LogFault, Shown, Wish, learn, replay, wish_of};
@@ -96,8 +98,8 @@ fn show_each<'a, F: Files>(
     Ok(shown)
 }
 
-// A bundle of the logs that words named.
-fn learned_of<'a, F: Files>(
+/// A bundle of the logs that words named.
+pub(crate) fn learned_of<'a, F: Files>(
     alloc: Global,
     native: Arch,
     wish: &Wish<'a>,
@@ -134,6 +136,21 @@ fn bundle_of<'a, F: Files>(
     }
 }
 
+// Makes a bundle of a profile and logs, or of logs alone.
+fn learned_by<'a, F: Files>(
+    alloc: Global,
+    native: Arch,
+    words: &'a [&'a str],
+    files: &mut F,
+) -> Result<Both, Stop<'a>>
+    ensures { IsLearnedBy (F.folder files.old) native (profile_in (map (λ w. w.now) words.entry.now)) (map (λ w. w.now) words.entry.now) (told_in result) }
+{
+    match from_in(words) {
+        Some((profile, logs)) => widened(alloc, native, profile, logs, files),
+        None => bundle_of(alloc, native, words, files),
+    }
+}
+
 /// Makes a profile that allows what logs show, as words ask for it, and in the form that they ask for.
 pub fn learned<'a, F: Files>(
     alloc: Global,
@@ -144,7 +161,7 @@ pub fn learned<'a, F: Files>(
     ensures { IsLearnedOf (F.folder files.old) native (map (λ w. w.now) words.entry.now) (told_in result) }
 {
     let (others, as_bundle) = form_in(words);
-    let made = bundle_of(alloc, native, others, files);
+    let made = learned_by(alloc, native, others, files);
     in_form(alloc, native, as_bundle, made)
 }
 

@@ -7,6 +7,7 @@ ghost use Rattle.command_line.specs.Lines.{texts};
 ghost use Rattle.command_line.specs.Table.{words_of};
 ghost use Rattle.command_line.specs.declared.meanings.Meaning.TheVariants.{Machine};
 
+use aside::Leave;
 use call_tables::Arch;
 pub use export::Form;
 
@@ -22,6 +23,8 @@ pub(crate) struct Parts<'a> {
     pub three: &'a str,
     pub four: &'a str,
     pub five: &'a str,
+    pub six: &'a str,
+    pub seven: &'a str,
     /// All but the first.
     pub from_two: &'a [&'a str],
     /// All but the first two.
@@ -96,16 +99,36 @@ pub(crate) fn parts_of<'a>(arguments: &'a [&'a str]) -> Parts<'a>
         three: part(arguments, 2),
         four: part(arguments, 3),
         five: part(arguments, 4),
+        six: part(arguments, 5),
+        seven: part(arguments, 6),
         from_two: from(arguments, 1),
         from_three: from(arguments, 2),
     }
 }
 
-/// Whether one of the two words behind the files is this.
+/// Whether one of the words behind the files is this.
 pub(crate) fn asks(parts: &Parts<'_>, word: &str) -> bool
     ensures { result ≡ dispatch.asks word.now (spec.read parts.now) }
 {
-    parts.four == word || parts.five == word
+    parts.four == word || parts.five == word || parts.six == word || parts.seven == word
+}
+
+/// Which calls may be left aside.
+pub(crate) fn leave_of(parts: &Parts<'_>) -> Leave
+    ensures { result ≡ dispatch.leave_of (spec.read parts.now) }
+{
+    Leave {
+        unnamed: asks(parts, "calls"),
+        x32: asks(parts, "without-x32"),
+    }
+}
+
+/// Whether calls may be left aside.
+pub(crate) fn asks_but(parts: &Parts<'_>) -> bool
+    ensures { result ≡ dispatch.asks_but (spec.read parts.now) }
+{
+    let leave = leave_of(parts);
+    leave.unnamed || leave.x32
 }
 
 /// Whether the bundle is asked for.

@@ -1,38 +1,38 @@
 //! The whole program, from the arguments after its name to its exit status.
-ghost use Rattle.std.specs.Prelude.{◌≡◌, ◌≢◌, ◌⊎◌, ◌≤◌, ◌∷◌, [], ℕ, List, Err, Ok, OnErr, codes, false, true, map};
+ghost use Rattle.std.specs.Prelude.{◌≡◌, ◌⊎◌, ◌≤◌, ◌∷◌, [], ℕ, List, Err, Ok, OnErr, codes, false, true, map};
 ghost use Rattle.std.specs.Str.{bytes_eq};
-ghost use Rattle.command_line.specs.Lines.{Given, IsCommandLine, NoCommandLine, texts};
+ghost use Rattle.command_line.specs.Lines.{Given, IsCommandLine, NoCommandLine, given, texts};
 ghost use Rattle.command_line.specs.declared.prose.Command.TheVariants as the;
-ghost use Rattle.cli.specs.Parts.{native_of, parts_of, read};
-ghost use Rattle.cli.specs.Dispatch.{Answers, AnswersCertified, AnswersCertify, AnswersCheck, AnswersCompare, AnswersExport, AnswersRead, AnswersRun, AnswersVerdict};
-ghost use Rattle.cli.specs.Dispatch.{Does, DoesWith, ExplainsBy, ExplainsCertified, ExplainsRecord, ExplainsWhy, IsMisuse, TellsChanges, TellsMisuse, TellsRefusal, asks_all, asks_runc};
-ghost use Rattle.cli.specs.Statuses.{AreRight, AreRightBehind, HasRun};
-ghost use Rattle.cli.specs.Stop.{MayAdvise, ReportsOn, status_of};
+ghost use Rattle.cli.specs.Json.{is_json as is_asked};
+ghost use Rattle.cli.specs.Parts.{native_of, parts_of as parts_in, read};
+ghost use Rattle.cli.specs.Dispatch.{Answers, AnswersCheck, AnswersExport, AnswersRead, AnswersRun, AnswersVerdict};
+ghost use Rattle.cli.specs.Dispatch.{AnswersObjects, AskedChanges, AskedRefusal, DoesAsked, DoesObjects, OfInner};
+ghost use Rattle.cli.specs.Dispatch.{Does, DoesWith, ExplainsBy, ExplainsWhy, IsMisuse, TellsChanges, TellsMisuse, TellsRefusal, asks_but, leave_of};
+ghost use Rattle.cli.specs.Statuses.{AreRight, AreRightAtLeast, AreRightBehind, HasRun};
 ghost use Rattle.cli.specs.declared.stops.Stop.TheVariants.{Refused};
-ghost use Rattle.cli.specs.inner.Telling.{TellsOn, told_in};
 
-use crate::adapting::{Both, adapted};
-use crate::all::certify_all;
-use crate::all_behind::certify_all_behind;
-use crate::behind::certify_behind;
+use crate::adapting::adapted;
+use crate::certifying::certify_asked;
 use crate::combining::{combined, stacked};
-use crate::comparing;
+use crate::ending::status_on;
 use crate::explaining::explain;
 use crate::files::{Files, read_bundle, read_bundles, read_certificate, read_filter, read_record};
 use crate::logs::{learned, replayed};
 use crate::manual::{manual, version};
-use crate::parts::{Form, Parts, asks, asks_bundle, form_of, parts_of};
+use crate::objects::{is_json, write_answer};
+use crate::parts::{Form, Parts, asks_bundle, form_of, parts_of};
 use crate::recovering::recovered;
+use crate::remarking::remark_on;
 use crate::run::run_bundles;
 use crate::showing::{annotated, drawn, read_out, rules};
-use crate::stops::{Stop, report};
-use crate::telling::{assembled, compared, filters_compared, linted, record, reviewed, tell};
+use crate::stops::Stop;
+use crate::telling::{assembled, compare_as, linted, record, reviewed, tell, tell_both};
 use crate::tuning::filter_for_counts;
 use call_tables::Arch;
-use command_line::{Command, advice, read_arguments};
+use command_line::{Command, CommandLine, read_arguments};
 use maker::{check_line, export_bundle, verdict_line};
 use std::alloc::Global;
-use texts::{Sink, Source, write_all};
+use texts::{Sink, Source, ToWrite};
 use together::Way;
 
 // Answers a filter to a record.
@@ -68,29 +68,6 @@ fn check<'a, F: Files, O: Sink>(
     Ok(check_line(alloc, native, &bundle, &filter, &certificate, out)?)
 }
 
-// Writes a certificate that a filter answers what a bundle says, or what tells that it has none. A record that convicts the
-// filter is told in plain sentences too.
-fn certify<'a, F: Files, O: Sink, E: Sink>(
-    alloc: Global,
-    native: Arch,
-    bundle: &'a str,
-    filter: &'a str,
-    files: &mut F,
-    out: &mut O,
-    err: &mut E,
-) -> Result<bool, Stop<'a>>
-    ensures answers { AnswersCertify O.held O.failures (F.folder files.old) out.old out.new native bundle.entry.now filter.entry.now result }
-    ensures stopped { OnErr result (err.new ≡ err.old) }
-    ensures quiet { result ≡ Ok true → err.new ≡ err.old }
-    // The record that is explained is the one that was told.
-    ensures explained { ExplainsRecord O.held O.failures E.held E.failures (F.folder files.old) out.old out.new err.old err.new
-        native bundle.entry.now result }
-{
-    let bundle = read_bundle(alloc, native, files, bundle)?;
-    let filter = read_filter(alloc, files, filter)?;
-    Ok(comparing::certify(alloc, native, &bundle, &filter, out, err)?)
-}
-
 // Writes the filter of a bundle in a form, once it is checked, or why it has none.
 fn export<'a, F: Files, O: Sink>(
     alloc: Global,
@@ -122,63 +99,6 @@ fn run<'a, F: Files, I: Source, O: Sink>(
     run_bundles(alloc, native, &texts, input, out)
 }
 
-// Whether an answer was written.
-fn is_told(outcome: &Result<bool, Stop<'_>>) -> bool
-    ensures { result ≡ true → OnErr outcome.now (outcome.now ≡ Err Refused) }
-{
-    matches!(outcome, Ok(_) | Err(Stop::Refused))
-}
-
-// Writes a bundle that was made, or why there is none, and tells on standard error what was changed or added.
-fn tell_both<'a, O: Sink, E: Sink>(
-    both: Result<Both, Stop<'a>>,
-    out: &mut O,
-    err: &mut E,
-) -> Result<bool, Stop<'a>>
-    ensures told { TellsOn O.held O.failures out.old out.new (told_in both.entry) result }
-    ensures stopped { OnErr result ((result ≡ Err Refused) ⊎ (err.new ≡ err.old)) }
-{
-    match both {
-        Ok(Both { told, changes }) => {
-            let result = tell(Ok(told), out);
-            if is_told(&result) {
-                let _ = write_all(changes.as_bytes(), err);
-            }
-            result
-        }
-        Err(stop) => Err(stop),
-    }
-}
-
-// Certifies a filter, as the words behind the files ask.
-fn certify_as<'a, F: Files, O: Sink, E: Sink>(
-    alloc: Global,
-    parts: Parts<'a>,
-    files: &mut F,
-    out: &mut O,
-    err: &mut E,
-) -> Result<bool, Stop<'a>>
-    ensures answers { AnswersCertified O.held O.failures (F.folder files.old) out.old out.new
-        (asks_runc (read parts.entry)) (asks_all (read parts.entry)) (read parts.entry) result }
-    ensures stopped { OnErr result (err.new ≡ err.old) }
-    ensures quiet { result ≡ Ok true → (asks_runc (read parts.entry) ≡ true) ⊎ (err.new ≡ err.old) }
-    ensures explained { ExplainsCertified O.held O.failures E.held E.failures (F.folder files.old) out.old out.new err.old err.new
-        (asks_runc (read parts.entry)) (asks_all (read parts.entry)) (read parts.entry) result }
-{
-    let behind_stub = asks(&parts, "runc");
-    let all = asks(&parts, "all");
-    if behind_stub && all {
-        return certify_all_behind(alloc, parts.native, parts.two, parts.three, files, out, err);
-    }
-    if behind_stub {
-        return certify_behind(alloc, parts.native, parts.two, parts.three, files, out, err);
-    }
-    if all {
-        return certify_all(alloc, parts.native, parts.two, parts.three, files, out, err);
-    }
-    certify(alloc, parts.native, parts.two, parts.three, files, out, err)
-}
-
 // Tells what a bundle means, as the word behind the file asks.
 fn read_as<'a, F: Files, O: Sink>(
     alloc: Global,
@@ -192,28 +112,6 @@ fn read_as<'a, F: Files, O: Sink>(
         return tell(rules(alloc, parts.native, parts.two, files), out);
     }
     tell(read_out(alloc, parts.native, parts.two, files), out)
-}
-
-// Compares two files, as the word behind them asks.
-fn compare_as<'a, F: Files, O: Sink>(
-    alloc: Global,
-    parts: Parts<'a>,
-    files: &mut F,
-    out: &mut O,
-) -> Result<bool, Stop<'a>>
-    ensures { AnswersCompare O.held O.failures (F.folder files.old) out.old out.new (bytes_eq parts.entry.four.now (codes "filters")) (read parts.entry) result }
-{
-    if parts.four == "filters" {
-        return tell(
-            filters_compared(alloc, parts.native, parts.two, parts.three, files),
-            out,
-        );
-    }
-    let at_most = parts.four == "atmost";
-    tell(
-        compared(alloc, parts.native, parts.two, parts.three, at_most, files),
-        out,
-    )
 }
 
 // Carries a command out: true where it answered a verdict or yes, wrote what was asked for or ran a script, false where it
@@ -250,7 +148,7 @@ fn obey<'a, F: Files, I: Source, O: Sink, E: Sink>(
             files,
             out,
         ),
-        Command::Certify => certify_as(alloc, parts, files, out, err),
+        Command::Certify => certify_asked(alloc, parts, files, out, err),
         Command::Export => export(alloc, native, parts.two, form_of(parts.three), files, out),
         Command::Run => run(alloc, native, parts.from_two, files, input, out),
         Command::Explain => {
@@ -310,9 +208,105 @@ fn obey<'a, F: Files, I: Source, O: Sink, E: Sink>(
         }
         Command::Stack => tell_both(stacked(alloc, native, parts.from_two, files), out, err),
         Command::Review => tell(reviewed(alloc, native, parts.two, files), out),
+        Command::Json => Err(Stop::Usage),
         Command::Manual => tell(manual(alloc, parts.first), out),
         Command::Version => tell(version(alloc), out),
     }
+}
+
+// Carries a command out with its answer in memory, and writes the objects of the answer.
+fn answer_in_objects<'a, F: Files, I: Source, O: Sink, E: Sink>(
+    alloc: Global,
+    name: &str,
+    line: CommandLine<'a>,
+    files: &mut F,
+    input: &mut I,
+    out: &mut O,
+    err: &mut E,
+) -> Result<bool, Stop<'a>>
+    ensures answers { AnswersObjects I.left I.failures O.held O.failures (F.folder files.old) input.old input.new out.old out.new
+        (given line.entry) name.now result }
+    ensures stopped { OnErr result ((result ≡ Err Refused) ⊎ (err.new ≡ err.old)) }
+    ensures quiet { result ≡ Ok true → TellsChanges (given line.entry).0 (parts_in (given line.entry).1) ⊎ (err.new ≡ err.old) }
+    ensures no { result ≡ Ok false → TellsRefusal (given line.entry).0 (parts_in (given line.entry).1) ⊎ (err.new ≡ err.old) }
+    ensures refused { result ≡ Err Refused → TellsRefusal (given line.entry).0 (parts_in (given line.entry).1) ⊎ (err.new ≡ err.old) }
+{
+    let mut answer = ToWrite::new(Vec::new(alloc));
+    let mut told = ToWrite::new(Vec::new(alloc));
+    let parts = parts_of(line.parts);
+    let outcome = obey(
+        alloc,
+        line.command,
+        parts,
+        files,
+        input,
+        &mut answer,
+        &mut told,
+    );
+    write_answer(
+        alloc,
+        line.command,
+        name,
+        &answer.writer,
+        &told.writer,
+        outcome,
+        out,
+        err,
+    )
+}
+
+// Carries out the command that the arguments behind `json` are.
+fn json<'a, F: Files, I: Source, O: Sink, E: Sink>(
+    alloc: Global,
+    arguments: &'a [&'a str],
+    files: &mut F,
+    input: &mut I,
+    out: &mut O,
+    err: &mut E,
+) -> Result<bool, Stop<'a>>
+    ensures does { DoesObjects I.left I.failures O.held O.failures (F.folder files.old) input.old input.new out.old out.new
+        (texts arguments.entry.now) result }
+    ensures stopped { OnErr result ((result ≡ Err Refused) ⊎ (err.new ≡ err.old)) }
+    ensures quiet { result ≡ Ok true → OfInner TellsChanges (texts arguments.entry.now) ⊎ (err.new ≡ err.old) }
+    ensures no { result ≡ Ok false → OfInner TellsRefusal (texts arguments.entry.now) ⊎ (err.new ≡ err.old) }
+    ensures refused { result ≡ Err Refused → OfInner TellsRefusal (texts arguments.entry.now) ⊎ (err.new ≡ err.old) }
+{
+    match read_arguments(alloc, arguments) {
+        Ok(line) => answer_in_objects(alloc, parts_of(arguments).one, line, files, input, out, err),
+        Err(misuse) => Err(Stop::from(misuse)),
+    }
+}
+
+// Carries out a command line: what `json` asks for, or the command itself.
+fn obey_line<'a, F: Files, I: Source, O: Sink, E: Sink>(
+    alloc: Global,
+    line: CommandLine<'a>,
+    files: &mut F,
+    input: &mut I,
+    out: &mut O,
+    err: &mut E,
+) -> Result<bool, Stop<'a>>
+    ensures does { DoesAsked I.left I.failures O.held O.failures (F.folder files.old) input.old input.new out.old out.new
+        (is_asked (given line.entry).0) (given line.entry) result }
+    ensures stopped { OnErr result ((result ≡ Err Refused) ⊎ (err.new ≡ err.old)) }
+    ensures quiet { result ≡ Ok true → AskedChanges (given line.entry) ⊎ (err.new ≡ err.old) }
+    ensures no { result ≡ Ok false → AskedRefusal (given line.entry) ⊎ (err.new ≡ err.old) }
+    ensures refused { result ≡ Err Refused → AskedRefusal (given line.entry) ⊎ (err.new ≡ err.old) }
+    ensures explained { ExplainsBy O.held O.failures E.held E.failures (F.folder files.old) out.old out.new err.old err.new
+        (given line.entry).0 (parts_in (given line.entry).1) result }
+{
+    if is_json(line.command) {
+        return json(alloc, line.parts, files, input, out, err);
+    }
+    obey(
+        alloc,
+        line.command,
+        parts_of(line.parts),
+        files,
+        input,
+        out,
+        err,
+    )
 }
 
 // Carries out the command that the arguments are.
@@ -328,72 +322,22 @@ fn carry_out<'a, F: Files, I: Source, O: Sink, E: Sink>(
         → Does I.left I.failures O.held O.failures (F.folder files.old) input.old input.new out.old out.new command result }
     ensures stopped { OnErr result ((result ≡ Err Refused) ⊎ (err.new ≡ err.old)) }
     ensures quiet { (command : Given) → IsCommandLine arguments.entry.now command → result ≡ Ok true
-        → TellsChanges command.0 (parts_of command.1) ⊎ (err.new ≡ err.old) }
+        → AskedChanges command ⊎ (err.new ≡ err.old) }
     ensures no { (command : Given) → IsCommandLine arguments.entry.now command → result ≡ Ok false
-        → TellsRefusal command.0 (parts_of command.1) ⊎ (err.new ≡ err.old) }
+        → AskedRefusal command ⊎ (err.new ≡ err.old) }
     ensures refused { (command : Given) → IsCommandLine arguments.entry.now command → result ≡ Err Refused
-        → TellsRefusal command.0 (parts_of command.1) ⊎ (err.new ≡ err.old) }
+        → AskedRefusal command ⊎ (err.new ≡ err.old) }
     ensures explained { (command : Given) → IsCommandLine arguments.entry.now command
-        → ExplainsWhy O.held O.failures E.held E.failures (F.folder files.old) out.old out.new err.old err.new command.0 (parts_of command.1) result }
+        → ExplainsWhy O.held O.failures E.held E.failures (F.folder files.old) out.old out.new err.old err.new command.0 (parts_in command.1) result }
     ensures misuse { NoCommandLine arguments.entry.now → IsMisuse result }
     ensures unread { NoCommandLine arguments.entry.now → input.new ≡ input.old }
     ensures unwritten { NoCommandLine arguments.entry.now → out.new ≡ out.old }
     ensures unopened { NoCommandLine arguments.entry.now → files.new ≡ files.old }
 {
     match read_arguments(alloc, arguments) {
-        Ok(line) => obey(
-            alloc,
-            line.command,
-            parts_of(line.parts),
-            files,
-            input,
-            out,
-            err,
-        ),
+        Ok(line) => obey_line(alloc, line, files, input, out, err),
         Err(misuse) => Err(Stop::from(misuse)),
     }
-}
-
-// Writes a line about wrong arguments behind the name of a command of our own, as far as it goes.
-fn advise<E: Sink>(alloc: Global, arguments: &[&str], err: &mut E)
-    ensures { MayAdvise E.held E.failures err.old err.new (texts arguments.now) }
-{
-    if let Ok(Some(line)) = advice(alloc, arguments) {
-        let _ = write_all(line.as_bytes(), err);
-    }
-}
-
-// Writes the line that says why the program stops, and behind it what is wrong with the arguments, if they are; gives the exit status.
-fn report_on<E: Sink>(alloc: Global, arguments: &[&str], stop: &Stop<'_>, err: &mut E) -> u8
-    ensures status { result ≡ status_of stop.now }
-    ensures lines { ReportsOn E.held E.failures err.old err.new (texts arguments.now) stop.now }
-{
-    let status = report(stop, err);
-    match stop {
-        Stop::Usage => advise(alloc, arguments, err),
-        _ => {}
-    }
-    status
-}
-
-// Whether what was given is refused, as the answer says.
-fn is_refused(stop: &Stop<'_>) -> bool
-    ensures yes { result ≡ true → stop.now ≡ Refused }
-    ensures no { result ≡ false → stop.now ≢ Refused }
-{
-    matches!(stop, Stop::Refused)
-}
-
-// The exit status where the program stops, and the line that says why, unless the answer says it.
-fn status_on<E: Sink>(alloc: Global, arguments: &[&str], stop: &Stop<'_>, err: &mut E) -> u8
-    ensures status { result ≡ status_of stop.now }
-    ensures quiet { stop.now ≡ Refused → err.new ≡ err.old }
-    ensures lines { stop.now ≢ Refused → ReportsOn E.held E.failures err.old err.new (texts arguments.now) stop.now }
-{
-    if is_refused(stop) {
-        return stop.status();
-    }
-    report_on(alloc, arguments, stop, err)
 }
 
 /// Runs the program on the arguments after its name, and gives the exit status: 0 done, 1 no, 2 a fault of the command line, 3 a file,
@@ -423,6 +367,11 @@ pub fn dispatch<F: Files, I: Source, O: Sink, E: Sink>(
     ensures certify_runc_all { (machine bundle filter : List ℕ)
         → IsCommandLine arguments.entry.now (the.Certify, machine ∷ bundle ∷ filter ∷ codes "runc" ∷ codes "all" ∷ []) → result ≡ 0
         → AreRight (F.folder files.old) (native_of machine) bundle filter ⊎ AreRightBehind (F.folder files.old) (native_of machine) bundle filter }
+    // With `calls` or `without-x32` it is so, or it is so but for calls that are left aside with reason.
+    ensures certify_but { (machine bundle filter : List ℕ) (words : List (List ℕ))
+        → IsCommandLine arguments.entry.now (the.Certify, machine ∷ bundle ∷ filter ∷ words)
+        → asks_but (parts_in (machine ∷ bundle ∷ filter ∷ words)) ≡ true → result ≡ 0
+        → AreRightAtLeast (F.folder files.old) (native_of machine) bundle filter (leave_of (parts_in (machine ∷ bundle ∷ filter ∷ words))) }
     ensures run { (machine : List ℕ) (bundles : List (List ℕ)) → IsCommandLine arguments.entry.now (the.Run, machine ∷ bundles) → result ≡ 0
         → HasRun (F.folder files.old) (native_of machine) bundles (I.left input.old) (O.held out.old) (O.held out.new) }
     // Arguments that are no command are a fault of the command line, unless the memory to read them is refused: no file and no input
@@ -434,7 +383,10 @@ pub fn dispatch<F: Files, I: Source, O: Sink, E: Sink>(
 {
     match carry_out(alloc, arguments, files, input, out, err) {
         Ok(true) => 0,
-        Ok(false) => 1,
-        Err(stop) => status_on(alloc, arguments, &stop, err),
+        Ok(false) => {
+            remark_on(alloc, arguments, files, err);
+            1
+        }
+        Err(stop) => status_on(alloc, arguments, &stop, files, err),
     }
 }

@@ -4,11 +4,13 @@ ghost use Rattle.call_tables.specs.declared.arch.Arch.{Arch as TheArch};
 ghost use Rattle.show.specs.Read.{IsReadOut};
 ghost use Rattle.show.specs.Shown.{IsAnnotated, IsDrawn};
 ghost use Rattle.rules_text.specs.Text.{IsTextOf};
-ghost use Rattle.cli.specs.Read.{HasHint, TellsRead, TellsRules};
+ghost use Rattle.cli.specs.Read.{HasHint, HasNames, TellsRead, TellsRules};
 ghost use Rattle.cli.specs.Told.{OfBundle, of_one};
 ghost use Rattle.cli.specs.inner.Telling.{IsToldOf};
+ghost use Rattle.wording.specs.declared.told.Told.{Told as TheTold};
 
 use crate::files::{Files, read_bundle, read_filter};
+use crate::naming::with_names;
 use crate::stops::Stop;
 use call_tables::Arch;
 use rules_text::bundle_text;
@@ -76,7 +78,8 @@ fn with_hint(told: Told) -> Result<Told, AllocError>
 
 // The same, if `lint` has a call to report.
 fn hinted(alloc: Global, native: Arch, bundle: &[u8], told: Told) -> Result<Told, AllocError>
-    ensures { IsReadOut native bundle.now told → IfOk result (TellsRead native bundle.now) }
+    ensures { (meaning : TheTold) → IsReadOut native bundle.now meaning → HasNames native bundle.now meaning told
+        → IfOk result (TellsRead native bundle.now) }
 {
     if !told.done {
         return Ok(told);
@@ -88,11 +91,12 @@ fn hinted(alloc: Global, native: Arch, bundle: &[u8], told: Told) -> Result<Told
     with_hint(told)
 }
 
-// What a bundle means, or where it is wrong, and whether `lint` has a call to report.
+// What a bundle means, or where it is wrong, the names of its constants, and whether `lint` has a call to report.
 fn described(alloc: Global, native: Arch, bundle: &[u8]) -> Result<Told, AllocError>
     ensures { IfOk result (TellsRead native bundle.now) }
 {
-    let told = show::read_out(alloc, native, bundle)?;
+    let meaning = show::read_out(alloc, native, bundle)?;
+    let told = with_names(alloc, native, bundle, meaning)?;
     hinted(alloc, native, bundle, told)
 }
 

@@ -1,25 +1,33 @@
 //! Commands that tell: what the library tells of arguments and of files, and how it is written.
-ghost use Rattle.std.specs.Prelude.{IfOk, Option, [], ◌∷◌, ◌≡◌, map};
-ghost use Rattle.compare.specs.Told.{IsCompared};
+ghost use Rattle.std.specs.Prelude.{IfOk, Option, [], ◌∷◌, ◌≡◌, ◌⊎◌, Err, OnErr, codes, map, true};
+ghost use Rattle.std.specs.Str.{bytes_eq};
 ghost use Rattle.compare.specs.FiltersTold.{IsTold};
 ghost use Rattle.explain.specs.Told.{IsAssembled, IsRecorded};
 ghost use Rattle.review.specs.Reviewed.{IsReviewed};
-ghost use Rattle.cli.specs.Dispatch as spec;
+ghost use Rattle.cli.specs.Compared.{TellsCompared};
+ghost use Rattle.cli.specs.Dispatch.{AnswersCompare, outcome_of as the_outcome};
+ghost use Rattle.cli.specs.Parts.{read as parts_read};
+ghost use Rattle.cli.specs.declared.stops.Stop.TheVariants.{Refused};
+ghost use Rattle.cli.specs.Refusal as refusal;
 ghost use Rattle.cli.specs.Read.{TellsLinted};
 ghost use Rattle.cli.specs.Files.{Folder};
 ghost use Rattle.cli.specs.Told.{OfArguments, OfBundle, OfBundles, of_none, of_one, of_two};
-ghost use Rattle.cli.specs.inner.Telling.{IsToldOf, TellsOn};
+ghost use Rattle.cli.specs.inner.Telling.{IsToldOf, TellsOn, told_in};
 
+use crate::adapting::Both;
+use crate::beside::compared_beside;
 use crate::files::{Files, read, read_bundle};
+use crate::naming::with_names;
+use crate::parts::Parts;
 use crate::stops::Stop;
 use call_tables::Arch;
 use std::alloc::{AllocError, Global};
 use texts::{Sink, write_all};
 use wording::Told;
 
-// Whether what was given could not be read, as the first words of an answer say.
-fn is_refusal(bytes: &[u8]) -> bool
-    ensures { result ≡ spec.is_refusal bytes.now }
+/// Whether what was given could not be read, as the first words of an answer say.
+pub(crate) fn is_refusal(bytes: &[u8]) -> bool
+    ensures { result ≡ refusal.is_refusal bytes.now }
 {
     bytes.starts_with(b"refused profile ")
         || bytes.starts_with(b"refused view ")
@@ -33,7 +41,7 @@ fn is_refusal(bytes: &[u8]) -> bool
 
 // How a command ends that told whether it was done.
 fn outcome_of<'a>(told: &Told) -> Result<bool, Stop<'a>>
-    ensures { result ≡ spec.outcome_of told.now }
+    ensures { result ≡ the_outcome told.now }
 {
     if told.done {
         return Ok(true);
@@ -53,6 +61,34 @@ pub(crate) fn tell<'a, O: Sink>(told: Result<Told, Stop<'a>>, out: &mut O) -> Re
             Ok(()) => outcome_of(&told),
             Err(fault) => Err(Stop::from(fault)),
         },
+        Err(stop) => Err(stop),
+    }
+}
+
+// Whether an answer was written.
+fn is_told(outcome: &Result<bool, Stop<'_>>) -> bool
+    ensures { result ≡ true → OnErr outcome.now (outcome.now ≡ Err Refused) }
+{
+    matches!(outcome, Ok(_) | Err(Stop::Refused))
+}
+
+/// Writes a bundle that was made, or why there is none, and tells on standard error what was changed or added.
+pub(crate) fn tell_both<'a, O: Sink, E: Sink>(
+    both: Result<Both, Stop<'a>>,
+    out: &mut O,
+    err: &mut E,
+) -> Result<bool, Stop<'a>>
+    ensures told { TellsOn O.held O.failures out.old out.new (told_in both.entry) result }
+    ensures stopped { OnErr result ((result ≡ Err Refused) ⊎ (err.new ≡ err.old)) }
+{
+    match both {
+        Ok(Both { told, changes }) => {
+            let result = tell(Ok(told), out);
+            if is_told(&result) {
+                let _ = write_all(changes.as_bytes(), err);
+            }
+            result
+        }
         Err(stop) => Err(stop),
     }
 }
@@ -84,12 +120,13 @@ pub(crate) fn assembled<'a, F: Files>(
     }
 }
 
-// Which calls get past a bundle, and what stands in it and is not read.
+// Which calls get past a bundle, what stands in it and is not read, and the names of its constants.
 fn linted_text(alloc: Global, native: Arch, bundle: &[u8]) -> Result<Told, AllocError>
     ensures { IfOk result (TellsLinted native bundle.now) }
 {
-    let told = compare::lint::lint(alloc, native, bundle)?;
-    show::refusing_unread(alloc, native, bundle, told)
+    let found = compare::lint::lint(alloc, native, bundle)?;
+    let told = show::refusing_unread(alloc, native, bundle, found)?;
+    with_names(alloc, native, bundle, told)
 }
 
 /// Which calls get past a bundle by bits that the kernel does not read.
@@ -137,10 +174,10 @@ fn compared_with<'a, F: Files>(
     at_most: bool,
     files: &mut F,
 ) -> Result<Told, Stop<'a>>
-    ensures { IsToldOf (F.folder files.old) (new.entry.now ∷ []) (of_one (OfBundle native (IsCompared at_most native first.now))) result }
+    ensures { IsToldOf (F.folder files.old) (new.entry.now ∷ []) (of_one (OfBundle native (TellsCompared at_most native first.now))) result }
 {
     match read_bundle(alloc, native, files, new) {
-        Ok(second) => match compare::compare(alloc, native, first, &second, at_most) {
+        Ok(second) => match compared_beside(alloc, native, first, &second, at_most) {
             Ok(told) => Ok(told),
             Err(_no_memory) => Err(Stop::OutOfMemory),
         },
@@ -148,8 +185,8 @@ fn compared_with<'a, F: Files>(
     }
 }
 
-/// Compares what a new bundle says with what an old one says, or tells whether it allows no more.
-pub(crate) fn compared<'a, F: Files>(
+// Compares what a new bundle says with what an old one says, or tells whether it allows no more.
+fn compared<'a, F: Files>(
     alloc: Global,
     native: Arch,
     old: &'a str,
@@ -157,7 +194,7 @@ pub(crate) fn compared<'a, F: Files>(
     at_most: bool,
     files: &mut F,
 ) -> Result<Told, Stop<'a>>
-    ensures { IsToldOf (F.folder files.old) (old.entry.now ∷ new.entry.now ∷ []) (of_two (OfBundles native (IsCompared at_most native))) result }
+    ensures { IsToldOf (F.folder files.old) (old.entry.now ∷ new.entry.now ∷ []) (of_two (OfBundles native (TellsCompared at_most native))) result }
 {
     match read_bundle(alloc, native, files, old) {
         Ok(first) => compared_with(alloc, native, &first, new, at_most, files),
@@ -184,8 +221,8 @@ fn filters_compared_with<'a, F: Files>(
     }
 }
 
-/// Tells calls of which a new filter answers another verdict than an old one.
-pub(crate) fn filters_compared<'a, F: Files>(
+// Tells calls of which a new filter answers another verdict than an old one.
+fn filters_compared<'a, F: Files>(
     alloc: Global,
     native: Arch,
     old: &'a str,
@@ -198,4 +235,26 @@ pub(crate) fn filters_compared<'a, F: Files>(
         Ok(first) => filters_compared_with(alloc, native, &first, new, files),
         Err(stop) => Err(stop),
     }
+}
+
+/// Compares two files, as the word behind them asks.
+pub(crate) fn compare_as<'a, F: Files, O: Sink>(
+    alloc: Global,
+    parts: Parts<'a>,
+    files: &mut F,
+    out: &mut O,
+) -> Result<bool, Stop<'a>>
+    ensures { AnswersCompare O.held O.failures (F.folder files.old) out.old out.new (bytes_eq parts.entry.four.now (codes "filters")) (parts_read parts.entry) result }
+{
+    if parts.four == "filters" {
+        return tell(
+            filters_compared(alloc, parts.native, parts.two, parts.three, files),
+            out,
+        );
+    }
+    let at_most = parts.four == "atmost";
+    tell(
+        compared(alloc, parts.native, parts.two, parts.three, at_most, files),
+        out,
+    )
 }

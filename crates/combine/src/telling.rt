@@ -50,7 +50,7 @@ fn put_crowded(text: &mut String, native: Arch, call: &Call) -> Result<(), Alloc
 // The words of `recover` for a filter that no section says.
 const THIS_FILTER: &str = "no section says this filter: ";
 
-// The same for several bundles.
+// The words for bundles that no section says together.
 const THESE: &str = "no section says what these say together: ";
 
 // Adds why no section says what they say together.

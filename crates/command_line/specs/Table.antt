@@ -3,7 +3,7 @@ use Rattle.std.specs.Prelude.{ℕ, List, [], ◌∷◌, map, codes}
 use denote.Ref.{Bor}
 use Rattle.command_line.specs.declared.meanings.Meaning.{Meaning}
 use Rattle.command_line.specs.declared.meanings.Meaning.TheVariants.{Machine, Form, Certified, CertifiedToo}
-use Rattle.command_line.specs.declared.meanings.Meaning.TheVariants.{ReadAs, ShownAs, WrittenAs, Compared}
+use Rattle.command_line.specs.declared.meanings.Meaning.TheVariants.{ReadAs, ShownAs, WrittenAs, Compared, Judge}
 use Rattle.command_line.specs.declared.prose.Command.{Command}
 use Rattle.command_line.specs.declared.table.TheConstants.{COMMANDS}
 
@@ -47,8 +47,11 @@ words_of Machine =
     codes "linux-x86-64" ∷ codes "linux-aarch64" ∷ codes "linux-riscv64" ∷ codes "linux-ppc64le"
     ∷ codes "linux-loongarch64" ∷ codes "x86-64" ∷ codes "aarch64" ∷ []
 words_of Form = codes "raw" ∷ codes "listing" ∷ codes "cert" ∷ []
-words_of Certified = codes "runc" ∷ codes "all" ∷ []
-words_of CertifiedToo = codes "runc" ∷ codes "all" ∷ []
+words_of Judge =
+    codes "verdict" ∷ codes "check" ∷ codes "certify" ∷ codes "explain" ∷ codes "read" ∷ codes "lint" ∷ codes "compare" ∷ codes "replay"
+    ∷ codes "review" ∷ []
+words_of Certified = codes "runc" ∷ codes "all" ∷ codes "calls" ∷ codes "without-x32" ∷ []
+words_of CertifiedToo = codes "runc" ∷ codes "all" ∷ codes "calls" ∷ codes "without-x32" ∷ []
 words_of ReadAs = codes "rules" ∷ []
 words_of ShownAs = codes "cost" ∷ []
 words_of WrittenAs = codes "bundle" ∷ []

@@ -30,6 +30,8 @@ pub enum Meaning {
     ReplayedLog,
     Counts,
     Command,
+    Judge,
+    Argument,
 }
 
 impl Meaning {
@@ -60,9 +62,11 @@ impl Meaning {
                 "the config.json is written, and not its section\n[possible values: bundle]"
             }
             Meaning::Certified => {
-                "the filter is of runc, which puts its ENOSYS stub in front; or all calls are reported that differ\n[possible values: runc, all]"
+                "the filter is of runc, which puts its ENOSYS stub in front; or all calls are reported that differ; or\nnumbers that no table has are left aside, or all calls of x32\n[possible values: runc, all, calls, without-x32]"
             }
-            Meaning::CertifiedToo => { "the other of the two\n[possible values: runc, all]" }
+            Meaning::CertifiedToo => {
+                "another of these\n[possible values: runc, all, calls, without-x32]"
+            }
             Meaning::Record => { "a file with the 64 bytes of struct seccomp_data" }
             Meaning::Certificate => { "a file that certify wrote" }
             Meaning::Listing => { "a file with the text of a filter" }
@@ -82,7 +86,7 @@ impl Meaning {
                 "how the bundle is made, in any order\n[possible values: widen, first, looser, stricter, like-libseccomp, narrow, log, for,\ndocker, podman, containerd, cap, kernel]"
             }
             Meaning::LearnedLog => {
-                "files that 'strace -f -n -e raw=all -o LOG' wrote, and what is asked\n[possible values: keep, for, crun, runc, bwrap, else, errno, enosys, log, kill]"
+                "files that 'strace -f -n -e raw=all -o LOG' wrote, and what is asked\n[possible values: from, keep, for, crun, runc, bwrap, else, errno, enosys, log, kill]"
             }
             Meaning::ReplayedLog => {
                 "files that 'strace -f -n -e raw=all -o LOG' wrote\n[possible values: unused]"
@@ -91,6 +95,10 @@ impl Meaning {
                 "a file with the name of a call and how often it is made on each line"
             }
             Meaning::Command => { "the name of a command" }
+            Meaning::Judge => {
+                "the name of a command that judges\n[possible values: verdict, check, certify, explain, read, lint, compare, replay, review]"
+            }
+            Meaning::Argument => { "the arguments of that command" }
         }
     }
 
@@ -109,7 +117,11 @@ impl Meaning {
                 "aarch64",
             ],
             Meaning::Form => &["raw", "listing", "cert"],
-            Meaning::Certified | Meaning::CertifiedToo => &["runc", "all"],
+            Meaning::Judge => &[
+                "verdict", "check", "certify", "explain", "read", "lint", "compare", "replay",
+                "review",
+            ],
+            Meaning::Certified | Meaning::CertifiedToo => &["runc", "all", "calls", "without-x32"],
             Meaning::ReadAs => &["rules"],
             Meaning::ShownAs => &["cost"],
             Meaning::WrittenAs => &["bundle"],

@@ -74,6 +74,162 @@ fn put_wrong(text: &mut String, parts: &[Part], words: &[&str]) -> Result<bool, 
     Ok(false)
 }
 
+// What may stand behind words of `adapt` and `learn`.
+const ENGINES: &[&str] = &["docker", "podman", "containerd"];
+
+const CAPABILITIES: &[&str] = &["all", "names as CAP_SYS_ADMIN"];
+
+const KERNELS: &[&str] = &["two numbers as 6.12"];
+
+const RUNTIMES: &[&str] = &["crun", "runc", "bwrap", "docker", "podman"];
+
+const OTHERWISE: &[&str] = &["errno", "enosys", "log", "kill"];
+
+const KEPT: &[&str] = &["a call and its arguments as socket:0,1"];
+
+// The words that stand behind the file of `adapt`, but for those behind one of these.
+const ADAPTS: &[&str] = &[
+    "widen",
+    "first",
+    "looser",
+    "stricter",
+    "like-libseccomp",
+    "narrow",
+    "log",
+    "for",
+    "cap",
+    "kernel",
+    "bundle",
+];
+
+// What may stand behind a word of `adapt`.
+fn behind_of_adapt(before: &str) -> Option<&'static [&'static str]> {
+    if before == "for" {
+        return Some(ENGINES);
+    }
+    if before == "cap" {
+        return Some(CAPABILITIES);
+    }
+    if before == "kernel" {
+        return Some(KERNELS);
+    }
+    None
+}
+
+// What may stand behind a word of `learn`.
+fn behind_of_learn(before: &str) -> Option<&'static [&'static str]> {
+    if before == "for" {
+        return Some(RUNTIMES);
+    }
+    if before == "else" {
+        return Some(OTHERWISE);
+    }
+    if before == "keep" {
+        return Some(KEPT);
+    }
+    None
+}
+
+// What may stand behind a word of a command.
+fn behind(name: &str, before: &str) -> Option<&'static [&'static str]> {
+    if name == "adapt" {
+        return behind_of_adapt(before);
+    }
+    if name == "learn" {
+        return behind_of_learn(before);
+    }
+    None
+}
+
+// Whether a word is one of these.
+fn is_one(words: &[&str], word: &str) -> bool {
+    for one in words {
+        if *one == word {
+            return true;
+        }
+    }
+    false
+}
+
+// Whether a word is a value as that of a capability, a kernel or a call's arguments.
+fn is_value(word: &str) -> bool {
+    word.starts_with("CAP_") || word.contains('.') || word.contains(':')
+}
+
+// Adds what may stand behind a word, if this one may not. Returns whether it may not.
+fn put_choice(
+    text: &mut String,
+    before: &str,
+    word: &str,
+    choices: &[&str],
+) -> Result<bool, AllocError> {
+    if is_one(choices, word) || is_value(word) {
+        return Ok(false);
+    }
+    write!(text, "{word} is nothing behind {before}: ")?;
+    put_words(text, choices)?;
+    Ok(true)
+}
+
+// Adds what a word is no one of, if it is no word of `adapt`. Returns whether it is none.
+fn put_word(text: &mut String, word: &str) -> Result<bool, AllocError> {
+    if is_one(ADAPTS, word) || is_value(word) {
+        return Ok(false);
+    }
+    write!(text, "{word} is no WORD: ")?;
+    put_words(text, ADAPTS)?;
+    Ok(true)
+}
+
+// Adds that a word of `adapt` stands twice, if it does. Returns whether it does.
+fn put_twice(text: &mut String, before: &[&str], word: &str) -> Result<bool, AllocError> {
+    if !is_one(ADAPTS, word) || !is_one(before, word) {
+        return Ok(false);
+    }
+    write!(text, "{word} stands twice")?;
+    Ok(true)
+}
+
+// Adds what is wrong with a word of `adapt` behind others, if it is known to be. Returns whether it is.
+fn put_behind(
+    text: &mut String,
+    name: &str,
+    words: &[&str],
+    word: &str,
+) -> Result<bool, AllocError> {
+    if name != "adapt" || words.len() < 2 {
+        return Ok(false);
+    }
+    if put_word(text, word)? {
+        return Ok(true);
+    }
+    put_twice(text, words, word)
+}
+
+// Adds what is wrong with the first word that asks for nothing, if one is known to. Returns whether one is.
+fn put_unknown(text: &mut String, name: &str, words: &[&str]) -> Result<bool, AllocError> {
+    for place in 1..words.len() {
+        let before = words[place.saturating_sub(1)];
+        let choices = behind(name, before);
+        let told = match choices {
+            Some(choices) => put_choice(text, before, words[place], choices)?,
+            None => put_behind(text, name, &words[..place], words[place])?,
+        };
+        if told {
+            return Ok(true);
+        }
+    }
+    Ok(false)
+}
+
+// Adds that a page is asked for of no command, or that the words ask for nothing.
+fn put_nothing(text: &mut String, entry: &Entry, words: &[&str]) -> Result<(), AllocError> {
+    match (entry.4, words) {
+        (Command::Manual, [word, ..]) => write!(text, "{word} is no COMMAND"),
+        _ => text.push_str("these words ask for nothing"),
+    }
+}
+
 // Adds that an argument is missing, or is one too many, or that the words ask for nothing.
 fn put_count(text: &mut String, entry: &Entry, words: &[&str]) -> Result<(), AllocError> {
     let (least, most) = entry.1;
@@ -84,18 +240,41 @@ fn put_count(text: &mut String, entry: &Entry, words: &[&str]) -> Result<(), All
     }
     match words.get(most) {
         Some(more) => write!(text, "{more} is one argument too many"),
-        None => text.push_str("these words ask for nothing"),
+        None => put_nothing(text, entry, words),
     }
 }
 
 // The line that says what is wrong with the arguments of a command.
 fn line_of(alloc: Global, entry: &Entry, words: &[&str]) -> Result<String, AllocError> {
     let mut text = String::from_str(alloc, "ccell: ")?;
-    if !put_wrong(&mut text, entry.2, words)? {
+    if !put_wrong(&mut text, entry.2, words)? && !put_unknown(&mut text, entry.0, words)? {
         put_count(&mut text, entry, words)?;
     }
     writeln!(text, " (ccell manual {})", entry.0)?;
     Ok(text)
+}
+
+// The command behind `json` and its arguments, if it is one that `json` takes.
+fn behind_json<'a>(entry: &Entry, words: &'a [&'a str]) -> Option<(Entry, &'a [&'a str])> {
+    let Command::Json = entry.4 else {
+        return None;
+    };
+    let [name, rest @ ..] = words else {
+        return None;
+    };
+    let inner = called(commands(), name)?;
+    if is_word(entry.2.first()?, name) {
+        return Some((inner, rest));
+    }
+    None
+}
+
+// The line that says what is wrong with the arguments of a command, or of the one behind `json`.
+fn line_on(alloc: Global, entry: &Entry, words: &[&str]) -> Result<String, AllocError> {
+    match behind_json(entry, words) {
+        Some((inner, rest)) => line_of(alloc, &inner, rest),
+        None => line_of(alloc, entry, words),
+    }
 }
 
 /// A line about wrong arguments, if they begin with the name of a command of our own.
@@ -105,7 +284,7 @@ pub fn advice(alloc: Global, arguments: &[&str]) -> Result<Option<String>, Alloc
     match ours(arguments) {
         Some(entry) => {
             let words = &arguments[arguments.len().min(1)..];
-            Ok(Some(line_of(alloc, &entry, words)?))
+            Ok(Some(line_on(alloc, &entry, words)?))
         }
         None => Ok(None),
     }

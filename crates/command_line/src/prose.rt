@@ -27,6 +27,7 @@ pub enum Command {
     Meet,
     Stack,
     Review,
+    Json,
     Manual,
     Version,
 }
@@ -53,6 +54,8 @@ the calls that it answers ENOSYS. If the bundle refuses them by its default, wit
 of them, the certificate is of the filter behind the stub. Otherwise the whole filter is judged.
 With all, a filter without a certificate gets a record of each call that is found on which it differs;
 with both, also a filter behind the stub.
+With calls, numbers that no table has are left aside if bundle and filter differ on them; with
+without-x32, all calls of x32 are. Where others are right the answer is yes, and these are listed.
 Status 0, or 1 and a line that begins with 'no' or 'refused'.
 
 Example: ccell certify linux-x86-64 web.json web.bpf > web.cert
@@ -140,7 +143,8 @@ keep CALL:ARG[,ARG]: compare these arguments with the values seen; once for each
 for crun|runc|bwrap|docker|podman: add the calls that a runtime makes behind the load.
 else errno|enosys|log|kill: the answer to all other calls.
 bundle, as the last word: write a bundle, a config.json with the section in it.
-Status 0, or 4 and a line that begins with 'refused'.
+With from and a bundle in front of the logs it adds to what this bundle allows.
+Status 0, 1 if no section says both, or 4 and a line that begins with 'refused'.
 
 Example: ccell learn linux-x86-64 web.log for crun > web.json
 ";
@@ -237,6 +241,16 @@ Status 0, or 4 if the bundle is refused.
 Example: ccell review linux-x86-64 web.json
 ";
 
+const JSON: &str =
+    "Carries out a command that judges, and writes each line of its answer as a JSON object, and a last object
+with the status. The member kind says what the line tells, and the other members are its parts. Indented
+lines are objects in the member details of the line above. A certificate is an object with its bytes in
+hexadecimal digits. Standard error is that of the command.
+Status: that of the command. If the program stops, with status 2 or 3, no object is written.
+
+Example: ccell json compare linux-x86-64 old.json new.json atmost
+";
+
 const MANUAL: &str = "Reports how a command is used, or which commands there are.
 Status 0, or 2 if there is no such command.
 
@@ -278,6 +292,7 @@ impl Command {
             Command::Meet => MEET,
             Command::Stack => STACK,
             Command::Review => REVIEW,
+            Command::Json => JSON,
             Command::Manual => MANUAL,
             Command::Version => VERSION,
         }

@@ -45,6 +45,10 @@ const CERTIFIED: Part = ("WORD", Meaning::Certified);
 
 const CERTIFIED_TOO: Part = ("OTHER", Meaning::CertifiedToo);
 
+const CERTIFIED_THIRD: Part = ("THIRD", Meaning::CertifiedToo);
+
+const CERTIFIED_FOURTH: Part = ("FOURTH", Meaning::CertifiedToo);
+
 const RECORD: Part = ("RECORD", Meaning::Record);
 
 const CERTIFICATE: Part = ("CERTIFICATE", Meaning::Certificate);
@@ -69,6 +73,10 @@ const COUNTS: Part = ("COUNTS", Meaning::Counts);
 
 const COMMAND: Part = ("COMMAND", Meaning::Command);
 
+const JUDGE: Part = ("COMMAND", Meaning::Judge);
+
+const ARGUMENT: Part = ("ARGUMENT", Meaning::Argument);
+
 /// The commands of the program.
 pub const COMMANDS: &[Entry] = &[
     (
@@ -87,8 +95,16 @@ pub const COMMANDS: &[Entry] = &[
     ),
     (
         "certify",
-        (3, 5),
-        &[MACHINE, BUNDLE, FILTER, CERTIFIED, CERTIFIED_TOO],
+        (3, 7),
+        &[
+            MACHINE,
+            BUNDLE,
+            FILTER,
+            CERTIFIED,
+            CERTIFIED_TOO,
+            CERTIFIED_THIRD,
+            CERTIFIED_FOURTH,
+        ],
         "a certificate for any filter, or a counterexample",
         Command::Certify,
     ),
@@ -224,6 +240,13 @@ pub const COMMANDS: &[Entry] = &[
         &[MACHINE, BUNDLE],
         "what a bundle leaves open of the calls by which a kernel is attacked most",
         Command::Review,
+    ),
+    (
+        "json",
+        (2, MANY),
+        &[JUDGE, ARGUMENT],
+        "the answer of a command that judges, as JSON lines",
+        Command::Json,
     ),
     (
         "manual",

@@ -25,22 +25,24 @@ module _ (policy : Policy) (r : List ℕ) (native : IsNative policy r) (beyond :
     unmatched = λ same all. refl;
   }
 
-module _ (policy : Policy) (p rest : List Insn) (answered : List Calls) (stub : IsStub p rest answered) (right : IsRight policy rest)
-    (spares : Spares policy answered) where
+module _ (policy : Policy) (answered : List Calls) (spares : Spares policy answered) where
   spared : (r : List ℕ) → IsAnswered answered r → IsSpared policy (word r 1) (word r 0)
   spared r (k, calls, lt, at, of) =
       let here : AreSpared policy calls = subst (AreSpared policy) at (spares.all k calls lt) in
       subst (λ (token : ℕ). IsSpared policy token (word r 0)) (sym of.0) (here.each (word r 0) of.1)
 
-  left : (r : List ℕ) → IsAnswered answered r → IsLeft policy r
+  -- a record that the stub answers gets the default, or is no call
+  pub left : (r : List ℕ) → IsAnswered answered r → IsLeft policy r
   left r h =
       let here = spared r h in
       elim here.listed [ inl native ↦ inl (gets_default policy r native here.beyond) | inr none ↦ inr none ]
 
+module _ (policy : Policy) (p rest : List Insn) (answered : List Calls) (stub : IsStub p rest answered) (right : IsRight policy rest)
+    (spares : Spares policy answered) where
   pub spared_is_right : IsRightBehind policy p answered
   spared_is_right = record {
     others = λ r is passes v.
         subst (λ (given : Option ℕ). (given ≡ Some v) ↔ Says policy r v) (sym (stub.others r is passes)) (right r is v);
     answers = stub.answers;
-    refused = λ r is h. (left r h, spares.mild);
+    refused = λ r is h. (left policy answered spares r h, spares.mild);
   }

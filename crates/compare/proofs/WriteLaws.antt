@@ -34,7 +34,7 @@ abbrev judged_as : Evidence → Result Evidence Unready
 judged_as evidence = Ok evidence
 
 -- a bundle means one profile
-one_policy : (native : Arch) (bundle : List ℕ) (p q : Policy) → IsBundle native bundle p → IsBundle native bundle q → p ≡ q
+pub one_policy : (native : Arch) (bundle : List ℕ) (p q : Policy) → IsBundle native bundle p → IsBundle native bundle q → p ≡ q
 one_policy native bundle p q h g =
     let same : h.0 ≡ g.0 = same_Some h.0 g.0 (sym h.1.1 ∙ g.1.1) in
     meaning_is_one g.0 native p q (subst (λ (t : Data). Means t native p) same h.2) g.2

@@ -9,4 +9,6 @@ mod text;
 pub use all::convictions_behind;
 pub use behind::{Behind, behind_stub};
 pub use judged::{Judged, judge_behind, write_behind};
-pub use text::stub_text;
+pub use spared::spares;
+pub use stub::{Calls, is_answered};
+pub use text::{calls_text, stub_text};

@@ -19,7 +19,8 @@ mod text;
 mod told;
 
 pub use behind_runc::{
-    Behind, Judged, behind_stub, convictions_behind, judge_behind, stub_text, write_behind,
+    Behind, Calls, Judged, behind_stub, calls_text, convictions_behind, is_answered, judge_behind,
+    spares, stub_text, write_behind,
 };
 pub use change::Change;
 pub use convicting::explain_found;

@@ -1,5 +1,5 @@
 -- What a profile may answer to a call, and what it never does.
-use Rattle.std.specs.Prelude.{ℕ, ◌≡◌, ◌≢◌, ◌==◌, ◌&&◌, ◌||◌, Bool, false, if◌then◌else◌, List}
+use Rattle.std.specs.Prelude.{ℕ, ◌≡◌, ◌≢◌, ◌==◌, ◌&&◌, ◌||◌, not, length, Bool, false, if◌then◌else◌, List}
 use Rattle.std.specs.List.{list_any}
 use Rattle.call_record.specs.Verdict.{action, kill_thread}
 use Rattle.call_record.specs.Words.{word}
@@ -12,11 +12,19 @@ use Rattle.explain.specs.Any.{is_of}
 abbrev pub gives : ℕ → ℕ → ℕ → Rule → Bool
 gives token nr a rule = is_of rule token nr && action rule.word == a
 
+-- the rule is for this call whatever its arguments are
+abbrev pub is_always : ℕ → ℕ → Rule → Bool
+is_always token nr rule = is_of rule token nr && length rule.conds.items == 0
+
+-- the action is the default's, and some record of the call may match no rule
+abbrev pub default_may : Policy → ℕ → ℕ → ℕ → Bool
+default_may p token nr a = action p.default_word == a && not (list_any (is_always token nr) p.rules)
+
 -- the action is that of the default or of a rule for the call; of a call of machines that are not listed it is KILL_THREAD
 abbrev pub may_answer : Policy → ℕ → ℕ → ℕ → Bool
 may_answer p token nr a =
     if list_any (has_call token nr) p.machines
-    then action p.default_word == a || list_any (gives token nr a) p.rules
+    then default_may p token nr a || list_any (gives token nr a) p.rules
     else a == kill_thread
 
 -- no record of the call gets a verdict with this action

@@ -28,7 +28,8 @@ conditions_text word (c ∷ conds) = codes " " ++ word ++ codes " " ++ condition
 
 -- a rule of an entry: its action and its conditions
 abbrev pub rule_text : ℕ → Rule → List ℕ
-rule_text entry rule = codes "entry " ++ decimal entry ++ codes " " ++ action_text rule.word ++ conditions_text (codes "if") rule.conds.items
+rule_text entry rule =
+    codes "entry " ++ decimal entry ++ codes " " ++ action_text rule.word ++ conditions_text (codes "if") rule.conds.items
 
 abbrev pub default_text : Policy → List ℕ
 default_text p = codes "default " ++ action_text p.default_word
@@ -48,7 +49,8 @@ name_text None nr = codes "call " ++ decimal nr
 -- a call by its name, which of its records, and its machine
 abbrev pub asked_text : Asked → List ℕ
 asked_text asked =
-    name_text (name_in (table_of (whole asked.arch)) asked.nr) asked.nr ++ codes " " ++ asked.part.0.now ++ codes " of " ++ machine_name asked.arch
+    name_text (name_in (table_of (whole asked.arch)) asked.nr) asked.nr ++ codes " " ++ asked.part.0.now ++ codes " of "
+    ++ machine_name asked.arch
 
 abbrev pub undecided_line : Asked → List ℕ
 undecided_line asked = codes "  undecided TooLarge " ++ asked_text asked ++ codes "\n"
@@ -98,5 +100,6 @@ pub record AddsGroup (p : Policy) (rules : List Rule) (ends : List ℕ) (g : Gro
 -- the text tells of these groups, one by one
 pub data TellsGroups (p : Policy) (rules : List Rule) (ends : List ℕ) : List GroupEntry → List ℕ → Type 0 where
   none : TellsGroups p rules ends [] []
-  more : (groups : List GroupEntry) (g : GroupEntry) (old new : List ℕ) → TellsGroups p rules ends groups old → AddsGroup p rules ends g old new
+  more : (groups : List GroupEntry) (g : GroupEntry) (old new : List ℕ) → TellsGroups p rules ends groups old
+      → AddsGroup p rules ends g old new
       → TellsGroups p rules ends (groups ++ g ∷ []) new

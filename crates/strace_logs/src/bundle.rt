@@ -13,15 +13,26 @@ fn is_shown(calls: &Calls, arch: Arch) -> bool {
     calls.seen.iter().any(|call| call.arch == arch)
 }
 
-/// The machines of a bundle: the native one, and those whose calls logs show.
+// Whether a machine is one of these.
+fn is_among(machines: &[Arch], arch: Arch) -> bool {
+    for machine in machines {
+        if *machine == arch {
+            return true;
+        }
+    }
+    false
+}
+
+/// The machines of a bundle: the native one, those whose calls logs show, and these.
 pub(crate) fn machines_of(
     alloc: Global,
     native: Arch,
     calls: &Calls,
+    more: &[Arch],
 ) -> Result<Vec<Arch>, AllocError> {
     let mut machines = Vec::new(alloc);
     for arch in machines_run(native) {
-        if *arch == native || is_shown(calls, *arch) {
+        if *arch == native || is_shown(calls, *arch) || is_among(more, *arch) {
             machines.push(*arch)?;
         }
     }

@@ -109,7 +109,7 @@ fn learn_calls(
     if calls.kept.len() >= MOST_KEPT {
         return refused_profile(alloc, ProfileError::TooMany);
     }
-    let machines = machines_of(alloc, native, calls)?;
+    let machines = machines_of(alloc, native, calls, &wish.machines)?;
     let runtime = wish.runtime;
     let otherwise = wish.otherwise;
     let names = names_of(alloc, &machines, &wish.keeps, calls, runtime, otherwise)?;

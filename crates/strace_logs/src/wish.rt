@@ -9,14 +9,15 @@ use crate::lists::{Otherwise, Runtime};
 use call_tables::Arch;
 use std::alloc::{AllocError, Global};
 
-/// The files of logs, the calls of which values are kept, the runtime whose own calls are added, and what becomes of the calls
-/// that no log shows.
+/// The files of logs, the calls of which values are kept, the runtime whose own calls are added, what becomes of the calls that no log
+/// shows, and machines that are listed besides those of the logs.
 #[derive(Drop)]
 pub struct Wish<'a> {
     pub logs: Vec<&'a str>,
     pub keeps: Vec<Keep<'a>>,
     pub runtime: Option<Runtime>,
     pub otherwise: Otherwise,
+    pub machines: Vec<Arch>,
 }
 
 // Adds a call of which values are kept, unless the word asks for none or the call has some.
@@ -120,6 +121,7 @@ pub fn wish_of<'a>(
         keeps: Vec::new(alloc),
         runtime: None,
         otherwise: Otherwise::Errno,
+        machines: Vec::new(alloc),
     };
     let is_read = put_words(native, &mut wish, words)?;
     if !is_read || wish.logs.is_empty() {

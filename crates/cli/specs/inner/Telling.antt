@@ -1,5 +1,5 @@
 -- What functions tell of files, before it is written.
-use Rattle.std.specs.Prelude.{ℕ, ◌≡◌, ◌⊎◌, List, [], ◌∷◌, ◌++◌, Bool, Option, Result, Ok, Err}
+use Rattle.std.specs.Prelude.{ℕ, ◌≡◌, ◌⊎◌, Some, None, List, [], ◌∷◌, ◌++◌, Bool, Option, Result, Ok, Err}
 use Rattle.texts.specs.Failures.{Failures}
 use Rattle.wording.specs.declared.told.Told.{Told}
 use Rattle.cli.specs.declared.stops.Stop.{Stop}
@@ -14,12 +14,13 @@ use Rattle.strace_logs.specs.declared.lists.Otherwise.{Otherwise}
 use Rattle.strace_logs.specs.declared.lists.Runtime.{Runtime}
 use Rattle.strace_logs.specs.declared.reading.Shown.{Shown}
 use Rattle.strace_logs.specs.Taken.{HaveShown}
-use Rattle.cli.specs.Dispatch.{FirstUnread, HaveBytes, StopsAtLog, WritesTold}
+use Rattle.cli.specs.Dispatch.{FirstUnread, HaveBytes, StopsAt, StopsAtLog, WritesTold}
 use Rattle.cli.specs.Files.{Folder, HasBytes}
 use Rattle.cli.specs.Input.{StopsInput}
 use Rattle.cli.specs.Adapted.{AskNothing, IsMadeAs}
 use Rattle.cli.specs.Combined.{TellsCombined, TellsStack}
 use Rattle.cli.specs.Told.{IsManual, IsNoCommand, IsReplayed, NamesLogs, OfArguments, OfBundle, OfEach, of_none, of_one}
+use Rattle.cli.specs.Widened.{TellsWidened, from_in, rest_of}
 use Rattle.cli.specs.Written.{IsWritten, NamesForm, WritesMade}
 use Rattle.together.specs.declared.way.Way.{Way}
 
@@ -78,7 +79,8 @@ pub record IsReplayOf (folder : Option Folder) (native : Arch) (bundle : List �
   pub is : IsToldOf folder (bundle ∷ logs) (IsReplayed native unused logs) told
 
 -- the profile that bundles mean together, in the form that the words ask for
-pub record IsCombinedOf (folder : Option Folder) (native : Arch) (way : Way) (words : List (List ℕ)) (told : Result Told Stop) : Type 0 where
+pub record IsCombinedOf (folder : Option Folder) (native : Arch) (way : Way) (words : List (List ℕ)) (told : Result Told Stop)
+    : Type 0 where
   pub bundles : List (List ℕ)
   pub as_bundle : Bool
   pub named : NamesForm words bundles as_bundle
@@ -119,13 +121,33 @@ IsLearnedBundleOf folder native words told =
     ⊎ ((logs : List (List ℕ)) × (runtime : Option Runtime) × (otherwise : Otherwise) × AskFor words logs runtime otherwise
     × IsLearnedFrom folder native logs runtime otherwise told))
 
+-- what a profile and logs give together, unless the program stops at one of them
+abbrev pub IsWidenedFrom : Option Folder → Arch → List ℕ → List (List ℕ) → Option Runtime → Otherwise → Result Told Stop → Type 0
+IsWidenedFrom folder native profile logs runtime otherwise (Ok told) =
+    (file : List ℕ) × (texts : List (List ℕ)) × HasBytes folder profile file × HaveBytes folder logs texts
+    × TellsWidened native file texts runtime otherwise told
+IsWidenedFrom folder native profile logs runtime otherwise (Err stop) = StopsAt folder profile stop ⊎ StopsAtLog folder logs stop
+
+-- the same of the logs that the words name, unless it stops before
+abbrev pub IsWidenedOf : Option Folder → Arch → List ℕ → List (List ℕ) → Result Told Stop → Type 0
+IsWidenedOf folder native profile words told =
+    (told ≡ Err Usage)
+    ⊎ ((told ≡ Err OutOfMemory)
+    ⊎ ((logs : List (List ℕ)) × (runtime : Option Runtime) × (otherwise : Otherwise) × AskFor words logs runtime otherwise
+    × IsWidenedFrom folder native profile logs runtime (rest_of words otherwise) told))
+
+-- what is learned by words, from a profile and logs or from logs alone
+abbrev pub IsLearnedBy : Option Folder → Arch → Option (List ℕ × List (List ℕ)) → List (List ℕ) → Result Told Stop → Type 0
+IsLearnedBy folder native (Some from) words told = IsWidenedOf folder native from.0 from.1 told
+IsLearnedBy folder native None words told = IsLearnedBundleOf folder native words told
+
 -- the same in the form that the words ask for
 pub record IsLearnedOf (folder : Option Folder) (native : Arch) (words : List (List ℕ)) (told : Result Told Stop) : Type 0 where
   pub others : List (List ℕ)
   pub as_bundle : Bool
   pub named : NamesForm words others as_bundle
   pub made : Result Told Stop
-  pub is_made : IsLearnedBundleOf folder native others made
+  pub is_made : IsLearnedBy folder native (from_in others) others made
   pub written : IsInForm native as_bundle made told
 
 -- the input is read to its end, and what a bundle says of its lines is told; or the program stops

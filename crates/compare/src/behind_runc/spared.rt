@@ -169,7 +169,7 @@ fn spares_all(profile: &Profile, answered: &[Calls]) -> bool
 }
 
 /// Whether a profile names none of the calls that a stub answers, and its default refuses them without a kill.
-pub(crate) fn spares(profile: &Profile, answered: &[Calls]) -> bool
+pub fn spares(profile: &Profile, answered: &[Calls]) -> bool
     ensures { IsTrue result ↔ Spares profile.now answered.now }
 {
     if !is_mild(profile.default_word()) {

@@ -9,5 +9,5 @@ mod region;
 mod splitting;
 mod step;
 
-pub(crate) use calls::{Calls, is_answered};
+pub use calls::{Calls, is_answered};
 pub(crate) use splitting::{Stub, split};

@@ -49,6 +49,15 @@ fn put_each(text: &mut String, family: Family, answered: &[Calls]) -> Result<(),
     Ok(())
 }
 
+/// Tells calls, a line for each range of numbers, by the names that a family's machines have.
+pub fn calls_text(alloc: Global, family: Family, calls: &[Calls]) -> Result<String, AllocError>
+    ensures { IfOk result (λ text. string_bytes text ≡ flat_map (spec.calls_line family) calls.now) }
+{
+    let mut text = String::new(alloc);
+    put_each(&mut text, family, calls)?;
+    Ok(text)
+}
+
 // The line that says how many bytes the stub has.
 fn size_line(alloc: Global, size: usize) -> Result<String, AllocError>
     ensures { IfOk result (λ text. string_bytes text ≡ spec.size_line size) }

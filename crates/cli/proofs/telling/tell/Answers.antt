@@ -1,6 +1,6 @@
-use Rattle.std.proofs.Common.{refl, subst, sym}
+use Rattle.std.proofs.Common.{refl, subst}
 use Rattle.texts.specs.Sink.{Wrote}
-use Rattle.cli.specs.Dispatch.{is_refusal}
+use Rattle.cli.specs.Refusal.{is_refusal}
 use Rattle.cli.proofs.DispatchLaws.{written_as}
 use Rattle.cli.proofs.telling.tell.Goals as goal
 

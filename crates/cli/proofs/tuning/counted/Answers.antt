@@ -1,4 +1,4 @@
-use Rattle.std.proofs.Common.{ℕ, List, [], ◌∷◌}
+use Rattle.std.proofs.Common.{[], ◌∷◌}
 use Rattle.cli.proofs.tuning.counted.Goals as goal
 
 pub returns-in-Ok-filter_of : goal.returns-in-Ok-filter_of

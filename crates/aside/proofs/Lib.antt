@@ -1,0 +1,3 @@
+mod FrontLaws
+mod AsideLaws
+mod ToldLaws

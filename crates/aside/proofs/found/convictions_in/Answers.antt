@@ -1,0 +1,20 @@
+use Rattle.std.proofs.Common.{List, inr, subst}
+use Rattle.std.specs.Prelude.{false}
+use Rattle.compare.specs.declared.behind_runc.stub.calls.Calls.{Calls}
+use Rattle.compare.specs.Behind.{AreFoundBehind}
+use Rattle.aside.proofs.FrontLaws.{if_ok}
+use Rattle.aside.proofs.found.convictions_in.Goals as goal
+
+pub of_found-requires : goal.of_found-requires
+of_found-requires c = c.requires c.in-Convicting.found c.in-Convicting.is
+
+pub returns-in_ok-passed-in-Convicting : goal.returns-in_ok-passed-in-Convicting
+returns-in_ok-passed-in-Convicting c =
+    if_ok c.of_found.result _ _
+    (λ all are. inr (
+      c.in-Convicting.found,
+      c.in-Convicting.is,
+      subst (λ (passed : List Calls). AreFoundBehind c.args.native c.args.bundle.now c.args.filter.now passed false c.in-Convicting.found all.items)
+          c.in_ok-passed-in-Convicting.ensures are,
+    ))
+    c.of_found.ensures

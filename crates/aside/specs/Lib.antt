@@ -1,0 +1,5 @@
+pub mod Aside
+pub mod Named
+pub mod Judged
+pub mod Told
+pub mod inner

@@ -1,0 +1,17 @@
+use Rattle.std.proofs.Common.{◌≡◌, ℕ, List, inl, refl, subst, sym, ◌∙◌, true}
+use Rattle.cli.specs.Refusal.{is_refusal}
+use Rattle.cli.proofs.BesideLaws.{told_beside}
+use Rattle.cli.proofs.beside.compared_beside.Goals as goal
+
+pub returns-then-is_refusal : goal.returns-then-is_refusal
+returns-then-is_refusal c = record {
+  inner = c.in_ok-told.told;
+  is = c.in_ok-told.ensures;
+  text =
+      inl (subst (λ (b : List ℕ). is_refusal b ≡ true) c.deref.ensures.value (sym c.is_refusal.ensures ∙ c.if-is_refusal.true), refl);
+}
+
+pub returns : goal.returns
+returns c =
+    told_beside c.args.at_most c.args.native c.args.first.now c.args.second.now c.in_ok-told.told c.behind_sides.result c.in_ok-told.ensures
+    c.behind_sides.ensures

@@ -1,0 +1,171 @@
+//! What `ccell certify` does where calls may be left aside.
+ghost use Rattle.std.specs.Prelude.{◌≡◌, ◌⊎◌, [], IfOk, Ok, OnErr, false, true};
+ghost use Rattle.aside.specs.declared.leave.Leave.{Leave as TheLeave};
+ghost use Rattle.aside.specs.Judged.{IsJudged, stub_calls};
+ghost use Rattle.aside.specs.Told.{AreFoundBut, CertifiesBut};
+ghost use Rattle.compare.specs.Behind.{IsBehind};
+ghost use Rattle.maker.specs.declared.evidence.evidence.Conviction.{Conviction as TheConviction};
+ghost use Rattle.maker.specs.declared.evidence.evidence.Evidence.TheVariants.{Convicting};
+ghost use Rattle.cli.specs.Dispatch.{AnswersBut, asks_runc, leave_of};
+ghost use Rattle.cli.specs.Parts.{read};
+
+use crate::all_behind::explain_each;
+use crate::behind::lines_of;
+use crate::comparing::{put_text, tell_found};
+use crate::files::{Files, read_bundle, read_filter};
+use crate::parts::{Parts, asks, leave_of};
+use crate::stops::Stop;
+use aside::{But, Leave, convictions_but, judge_but, write_found};
+use call_tables::Arch;
+use compare::{Behind, behind_stub};
+use maker::Conviction;
+use std::alloc::{AllocError, Global};
+use texts::{Sink, WriteFault};
+
+// What is asked beside the calls that may be left aside.
+#[derive(Clone, Copy)]
+struct Asked {
+    runc: bool,
+    all: bool,
+}
+
+// The filter behind a stub, if this is asked for, and else the whole filter.
+fn behind_of<'a>(alloc: Global, filter: &'a [u8], runc: bool) -> Result<Behind<'a>, AllocError>
+    ensures { IfOk result (λ behind. IsBehind filter.entry.now behind.rest.now behind.answered.items) }
+{
+    if runc {
+        return behind_stub(alloc, filter);
+    }
+    Ok(Behind {
+        answered: Vec::new(alloc),
+        rest: filter,
+    })
+}
+
+// The lines on the calls that the stub answers, if it was asked for.
+fn stub_lines(
+    alloc: Global,
+    native: Arch,
+    filter: &[u8],
+    behind: &Behind<'_>,
+    whole: bool,
+    runc: bool,
+) -> Result<String, AllocError> {
+    if runc {
+        return lines_of(alloc, native, filter, behind, whole);
+    }
+    Ok(String::new(alloc))
+}
+
+// All records that are found, if they are asked for.
+fn all_of(
+    alloc: Global,
+    native: Arch,
+    bundle: &[u8],
+    filter: &[u8],
+    behind: &Behind<'_>,
+    but: &But,
+    all: bool,
+) -> Result<Vec<Conviction>, AllocError>
+    requires { (leave : TheLeave) × IsJudged native bundle.now filter.now behind.now.rest.now behind.now.answered.items leave
+        but.now.aside.items but.now.judged.whole but.now.judged.evidence }
+    ensures { IfOk result (λ all. (all.items ≡ []) ⊎ ((found : TheConviction) × (but.now.judged.evidence ≡ Ok (Convicting found))
+        × AreFoundBut native bundle.now filter.now (stub_calls but.now.judged.whole behind.now.answered.items) but.now.aside.items found
+        all.items)) }
+{
+    if all {
+        return convictions_but(alloc, native, bundle, filter, behind, but);
+    }
+    Ok(Vec::new(alloc))
+}
+
+// Whether nothing is told on standard error: where the answer is yes, unless a stub was asked for.
+fn is_quiet(runc: bool, done: bool) -> bool
+    ensures { result ≡ false → done ≡ true → runc ≡ true }
+{
+    done && !runc
+}
+
+// Tells on standard error which calls the stub answers, if it was asked for, and explains each record that was told.
+fn tell<E: Sink>(
+    alloc: Global,
+    native: Arch,
+    bundle: &[u8],
+    lines: String,
+    but: &But,
+    all: &[Conviction],
+    err: &mut E,
+) {
+    put_text(lines, err);
+    if all.is_empty() {
+        tell_found(alloc, native, bundle, &but.judged.evidence, err);
+    } else {
+        explain_each(alloc, native, bundle, all, err);
+    }
+}
+
+// Writes what is judged of a filter where calls may be left aside. If there is no memory for what is told of it, nothing is written at all.
+fn judge<O: Sink, E: Sink>(
+    alloc: Global,
+    native: Arch,
+    bundle: &[u8],
+    filter: &[u8],
+    leave: Leave,
+    asked: Asked,
+    out: &mut O,
+    err: &mut E,
+) -> Result<bool, WriteFault>
+    ensures written { CertifiesBut O.held O.failures out.old out.new native bundle.now filter.now leave result }
+    ensures stopped { OnErr result (err.new ≡ err.old) }
+    ensures quiet { result ≡ Ok true → (asked.runc ≡ true) ⊎ (err.new ≡ err.old) }
+{
+    let behind = match behind_of(alloc, filter, asked.runc) {
+        Ok(behind) => behind,
+        Err(_no_memory) => return Err(WriteFault::OutOfMemory),
+    };
+    let but = match judge_but(alloc, native, bundle, filter, &behind, leave) {
+        Ok(but) => but,
+        Err(_no_memory) => return Err(WriteFault::OutOfMemory),
+    };
+    let lines = match stub_lines(alloc, native, filter, &behind, but.judged.whole, asked.runc) {
+        Ok(lines) => lines,
+        Err(_no_memory) => return Err(WriteFault::OutOfMemory),
+    };
+    let all = match all_of(alloc, native, bundle, filter, &behind, &but, asked.all) {
+        Ok(all) => all,
+        Err(_no_memory) => return Err(WriteFault::OutOfMemory),
+    };
+    let done = match write_found(alloc, native, &but, &all, out) {
+        Ok(done) => done,
+        Err(fault) => return Err(fault),
+    };
+    if is_quiet(asked.runc, done) {
+        return Ok(done);
+    }
+    tell(alloc, native, bundle, lines, &but, &all, err);
+    Ok(done)
+}
+
+/// Certifies a filter where calls may be left aside, as the words behind the files ask.
+pub(crate) fn certify_but<'a, F: Files, O: Sink, E: Sink>(
+    alloc: Global,
+    parts: Parts<'a>,
+    files: &mut F,
+    out: &mut O,
+    err: &mut E,
+) -> Result<bool, Stop<'a>>
+    ensures answers { AnswersBut O.held O.failures (F.folder files.old) out.old out.new parts.entry.native parts.entry.two.now
+        parts.entry.three.now (leave_of (read parts.entry)) result }
+    ensures stopped { OnErr result (err.new ≡ err.old) }
+    ensures quiet { result ≡ Ok true → (asks_runc (read parts.entry) ≡ true) ⊎ (err.new ≡ err.old) }
+{
+    let asked = Asked {
+        runc: asks(&parts, "runc"),
+        all: asks(&parts, "all"),
+    };
+    let leave = leave_of(&parts);
+    let native = parts.native;
+    let bundle = read_bundle(alloc, native, files, parts.two)?;
+    let filter = read_filter(alloc, files, parts.three)?;
+    Ok(judge(alloc, native, &bundle, &filter, leave, asked, out, err)?)
+}

@@ -1,0 +1,4 @@
+pub mod Kinds
+pub mod Named
+pub mod Lines
+pub mod Told

@@ -1,0 +1,10 @@
+//! The names of the constants that a profile's conditions compare arguments with.
+#![tactic(auto)]
+
+mod bits;
+mod kinds;
+mod lines;
+mod named;
+mod told;
+
+pub use told::names_of;

@@ -1,0 +1,10 @@
+pub mod Details
+pub mod Fits
+pub mod Groups
+pub mod Kept
+pub mod OneLine
+pub mod Parts
+pub mod Read
+pub mod Splits
+pub mod Tables
+pub mod Tokens
