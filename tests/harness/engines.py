@@ -45,20 +45,25 @@ class Podman:
 
 
 class Docker:
-    """A dockerd with its own containerd, and an image of busybox."""
+    """A dockerd and a containerd of the test's own, and an image of busybox."""
 
     def __init__(self, folder):
         self.name, self.runtime, self.command, self.image = "docker", "runc", "docker", ["--network", "none", "place"]
         with open(f"{folder}/daemon.json", "w", encoding="utf-8") as file:
             file.write("{}")
-        self.env = {**os.environ, "DOCKER_HOST": f"unix://{folder}/socket"}
-        with open(f"{folder}/log", "w", encoding="utf-8") as log:
-            self.daemon = subprocess.Popen(
-                ["dockerd", f"--config-file={folder}/daemon.json", f"--data-root={folder}/data", f"--exec-root={folder}/run",
-                 f"--pidfile={folder}/pid", "-H", self.env["DOCKER_HOST"], "--bridge=none", "--iptables=false", "--ip6tables=false",
-                 "--storage-driver=vfs"], stdin=subprocess.DEVNULL, stdout=log, stderr=log)
-        self.folder = folder
+        self.folder, self.env = folder, {**os.environ, "DOCKER_HOST": f"unix://{folder}/socket"}
+        # A dockerd waits for the containerd of the system where that has left its socket.
+        self.daemons = [
+            self.started("containerd", f"--root={folder}/content", f"--state={folder}/tasks", f"--address={folder}/containerd"),
+            self.started("dockerd", f"--config-file={folder}/daemon.json", f"--data-root={folder}/data", f"--exec-root={folder}/run",
+                         f"--pidfile={folder}/pid", f"--containerd={folder}/containerd", "-H", self.env["DOCKER_HOST"], "--bridge=none",
+                         "--iptables=false", "--ip6tables=false", "--storage-driver=vfs")]
         root_of(folder)
+
+    def started(self, *command):
+        """A daemon, whose lines go into the folder's log."""
+        with open(f"{self.folder}/log", "a", encoding="utf-8") as log:
+            return subprocess.Popen(command, stdin=subprocess.DEVNULL, stdout=log, stderr=log)
 
     def is_ready(self):
         """Whether the daemon answers and has the image."""
@@ -70,9 +75,10 @@ class Docker:
         return False
 
     def close(self):
-        """Ends the daemon."""
-        self.daemon.terminate()
-        self.daemon.wait(30)
+        """Ends the daemons, dockerd first."""
+        for daemon in reversed(self.daemons):
+            daemon.terminate()
+            daemon.wait(30)
 
 
 @contextlib.contextmanager
@@ -86,6 +92,17 @@ def opened(name, folder):
         yield engine
     finally:
         engine.close()
+
+
+def without_filter(engine):
+    """Why an engine starts no container here even without a filter: nothing if it does."""
+    name = f"bare-{os.getpid()}"
+    try:
+        came = subprocess.run([engine.command, "run", "--rm", "--name", name, "--security-opt", "seccomp=unconfined", *engine.image, "/bin/busybox",
+                               "true"], env=engine.env, stdin=subprocess.DEVNULL, capture_output=True, text=True, timeout=120, check=False)
+    except subprocess.TimeoutExpired:
+        return "it does not end within two minutes"
+    return None if came.returncode == 0 else f"{came.stdout}{came.stderr}".strip()
 
 
 def with_section(engine, section, *options):
