@@ -1,0 +1,4 @@
+mod RunLaws
+mod TurnLaws
+mod AboveLaws
+mod StackLaws

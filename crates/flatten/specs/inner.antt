@@ -1,0 +1,2 @@
+-- Mirrors of private code.
+pub mod Turns
