@@ -8,7 +8,7 @@ use denote.Ref.{Bor}
 use Rattle.command_line.specs.declared.prose.Command.{Command}
 use Rattle.command_line.specs.declared.prose.Command.TheVariants.{Verdict, Check, Certify, Export, Run, Explain, Record, Assemble}
 use Rattle.command_line.specs.declared.prose.Command.TheVariants.{Read, Annotate, Draw, Lint, Compare, Adapt, Learn}
-use Rattle.command_line.specs.declared.prose.Command.TheVariants.{Replay, Recover, Tune, Join, Meet, Stack, Review, Json, Manual, Version}
+use Rattle.command_line.specs.declared.prose.Command.TheVariants.{Replay, Recover, Tune, Join, Meet, Stack, Flatten, Review, Json, Manual, Version}
 use Rattle.aside.specs.declared.leave.Leave.{Leave}
 use Rattle.aside.specs.Told.{CertifiesBut}
 use Rattle.cli.specs.Parts.{Parts, form_of, part, parts_of}
@@ -45,6 +45,7 @@ use Rattle.cli.specs.Recovered.{TellsRecovered}
 use Rattle.cli.specs.Tuned.{TellsTuned}
 use Rattle.review.specs.Reviewed.{IsReviewed}
 use Rattle.cli.specs.Combined.{TellsCombined, TellsStack}
+use Rattle.cli.specs.Flat.{TellsFlat}
 use Rattle.together.specs.declared.way.Way.{Way}
 use Rattle.together.specs.declared.way.Way.TheVariants.{Laxest, Strictest}
 use Rattle.cli.specs.Told.{IsManual, IsNoCommand, IsReplayed, NamesLogs, of_none, of_one, of_two, OfArguments, OfBundle, OfBundles, OfEach}
@@ -431,6 +432,7 @@ module _ {I O : Type 0} (left : I → Option (List ℕ)) (given : I → Failures
   DoesWith Join p result = (input' ≡ input) × AnswersCombined held taken folder out out' p.native Laxest p.from_two result
   DoesWith Meet p result = (input' ≡ input) × AnswersCombined held taken folder out out' p.native Strictest p.from_two result
   DoesWith Stack p result = (input' ≡ input) × AnswersStack held taken folder out out' p.native p.from_two result
+  DoesWith Flatten p result = (input' ≡ input) × AnswersTold held taken folder out out' p.from_two TellsFlat result
   DoesWith Review p result =
       (input' ≡ input) × AnswersTold held taken folder out out' (p.two ∷ []) (of_one (OfBundle p.native (IsReviewed p.native))) result
   DoesWith Json p result = (input' ≡ input) × StopsAtWords held taken folder out out' result

@@ -16,6 +16,7 @@ pub mod Read
 pub mod Recovered
 pub mod Tuned
 pub mod Combined
+pub mod Flat
 pub mod Widened
 pub mod Remarked
 pub mod Input

@@ -16,6 +16,7 @@ mod ending;
 mod explaining;
 mod fault;
 mod files;
+mod flattening;
 mod forms;
 mod law;
 mod logs;

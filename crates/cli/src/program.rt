@@ -17,6 +17,7 @@ use crate::combining::{combined, stacked};
 use crate::ending::status_on;
 use crate::explaining::explain;
 use crate::files::{Files, read_bundle, read_bundles, read_certificate, read_filter, read_record};
+use crate::flattening::flattened;
 use crate::logs::{learned, replayed};
 use crate::manual::{manual, version};
 use crate::objects::{is_json, write_answer};
@@ -207,6 +208,7 @@ fn obey<'a, F: Files, I: Source, O: Sink, E: Sink>(
             )
         }
         Command::Stack => tell_both(stacked(alloc, native, parts.from_two, files), out, err),
+        Command::Flatten => tell(flattened(alloc, parts.from_two, files), out),
         Command::Review => tell(reviewed(alloc, native, parts.two, files), out),
         Command::Json => Err(Stop::Usage),
         Command::Manual => tell(manual(alloc, parts.first), out),

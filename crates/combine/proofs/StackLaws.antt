@@ -17,7 +17,8 @@ use Rattle.recover.specs.Recovered.{IsRecovered}
 use Rattle.together.specs.Combined.{IsBundle, IsCombined}
 use Rattle.together.specs.Together.{each_said}
 use Rattle.together.specs.declared.way.Way.TheVariants.{Strictest}
-use Rattle.combine.specs.Stack.{GivesVerdict, IsFilter, IsOfStack}
+use Rattle.flatten.specs.Stack.{GivesVerdict, IsFilter}
+use Rattle.combine.specs.Stack.{IsOfStack}
 
 -- a bundle means one profile
 one_policy : (native : Arch) (bundle : List ℕ) (p q : Policy) → IsBundle native bundle p → IsBundle native bundle q → p ≡ q

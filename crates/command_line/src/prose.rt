@@ -26,6 +26,7 @@ pub enum Command {
     Join,
     Meet,
     Stack,
+    Flatten,
     Review,
     Json,
     Manual,
@@ -233,6 +234,15 @@ Status 0, or 1 if no section says so, with a call that shows why.
 Example: ccell stack linux-x86-64 first.bpf second.bpf > process.json
 ";
 
+const FLATTEN: &str =
+    "Writes one filter that answers each call as several do, which were loaded in this order: the strictest
+answer counts, and of equally strict ones the newest filter's. Every command that reads a filter then
+reads the stack. Filters with scratch words, or that return what they computed, are not put together.
+Status 0, 1 if there is none, or 4 if one is no filter.
+
+Example: ccell flatten linux-x86-64 1234.1.bpf 1234.0.bpf > process.bpf
+";
+
 const REVIEW: &str =
     "Reports what a bundle leaves open of the calls by which a kernel is attacked most, group by group.
 Of each call it is decided for all arguments whether the bundle lets it through.
@@ -291,6 +301,7 @@ impl Command {
             Command::Join => JOIN,
             Command::Meet => MEET,
             Command::Stack => STACK,
+            Command::Flatten => FLATTEN,
             Command::Review => REVIEW,
             Command::Json => JSON,
             Command::Manual => MANUAL,

@@ -235,6 +235,13 @@ pub const COMMANDS: &[Entry] = &[
         Command::Stack,
     ),
     (
+        "flatten",
+        (2, MANY),
+        &[MACHINE, FILTERS],
+        "one filter that answers as several, which are loaded together",
+        Command::Flatten,
+    ),
+    (
         "review",
         (2, 2),
         &[MACHINE, BUNDLE],

@@ -9,8 +9,10 @@ mod flattened;
 mod insns;
 mod places;
 mod plain;
+mod telling;
 mod turns;
 mod unflat;
 
 pub use flattened::flatten;
+pub use telling::line_of;
 pub use unflat::Unflat;

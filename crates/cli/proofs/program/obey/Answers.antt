@@ -5,6 +5,7 @@ use Rattle.show.specs.Shown.{IsAnnotated, IsDrawn}
 use Rattle.command_line.specs.Lines.{texts}
 use Rattle.cli.specs.Dispatch.{any_call, explained_as}
 use Rattle.cli.specs.Told.{OfArguments, OfBundle, of_none, of_one, of_two}
+use Rattle.cli.specs.Flat.{TellsFlat}
 use Rattle.cli.specs.Tuned.{TellsTuned}
 use Rattle.review.specs.Reviewed.{IsReviewed}
 use Rattle.together.specs.declared.way.Way.TheVariants.{Laxest, Strictest}
@@ -145,6 +146,13 @@ returns-in-Stack-clause-does g c = rw c.in-Stack.is (
   answers_stack g.O.Sink.held g.O.Sink.failures (g.F.Files.folder c.args.files.now) c.args.out.now c.tell_both-in-Stack.new.out
       c.args.parts.native (texts c.args.parts.from_two.now) c.tell_both-in-Stack.result c.stacked.result c.stacked.ensures
       c.tell_both-in-Stack.ensures.told,
+)
+
+pub returns-in-Flatten-clause-does : goal.returns-in-Flatten-clause-does
+returns-in-Flatten-clause-does g c = rw c.in-Flatten.is (
+  refl,
+  answers_told g.O.Sink.held g.O.Sink.failures (g.F.Files.folder c.args.files.now) (texts c.args.parts.from_two.now) TellsFlat
+      c.args.out.now c.tell-in-Flatten.new.out c.tell-in-Flatten.result c.flattened.result c.flattened.ensures c.tell-in-Flatten.ensures,
 )
 
 pub returns-in-Review-clause-does : goal.returns-in-Review-clause-does
