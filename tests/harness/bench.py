@@ -48,6 +48,8 @@ class Bench:
             self.program.behind(row, rest)
         elif kind == "tuned":
             self.program.tuned(row, rest)
+        elif kind == "flattened":
+            self.program.flattened(row, rest)
         elif kind == "pace":
             row.tell(pace(self.shelf, rest))
         elif kind in Streams.KINDS:
