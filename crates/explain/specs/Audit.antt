@@ -80,7 +80,7 @@ hexadecimal_of text = option_and_then narrow (hexadecimal_at text)
 unfoldable pub decimal_of : List ℕ → Option ℕ
 decimal_of text = option_and_then narrow (decimal_at text)
 
--- auditd's names of machines. It has armeb for ARM, big-endian or not.
+-- auditd's names of machines. It says armeb of little-endian ARM.
 unfoldable pub machine_named : List ℕ → Option Arch
 machine_named word =
     if bytes_eq word (codes "x86_64") then Some LinuxX86_64

@@ -52,7 +52,7 @@ fn decimal_value(text: &str) -> Option<u32>
     u32::try_from(decimal(text)?).ok()
 }
 
-// The machine that auditd calls so. It says armeb of ARM, big-endian or not.
+// The machine that auditd calls so. It says armeb of little-endian ARM.
 #[tactic(auto, unfolding(crate::specs::Audit::machine_named))]
 fn machine_named(word: &str) -> Option<Arch>
     ensures { result ≡ spec.machine_named word.now }
