@@ -1,5 +1,5 @@
 -- Which record a line of a script asks for.
-use Rattle.std.proofs.Common.{◌≡◌, ◌≤◌, ◌<◌, ℕ, List, [], ◌∷◌, Bool, true, false, Bor, ap, arith, length, refl, slice_index_or, subst, sym}
+use Rattle.std.proofs.Common.{◌≡◌, ◌≤◌, ◌<◌, ℕ, List, [], ◌∷◌, true, false, Bor, ap, arith, length, refl, slice_index_or, subst, sym}
 use Rattle.std.specs.Prelude.{Option, None, Some, Result, IfOk, IfSome}
 use Rattle.call_tables.specs.declared.arch.Arch.{Arch}
 use Rattle.call_record.specs.declared.layout.Record.{Record}

@@ -8,9 +8,11 @@ use Rattle.std.proofs.lemmas.List.{take_all, take_more}
 use Rattle.std.proofs.lemmas.List.Folds.{list_any-append}
 use Rattle.std.proofs.Math.Seq.{drop-cons, take-append_seam}
 use Rattle.wording.specs.Lines.{lines_of}
-use Rattle.explain.specs.Audit.{event_in, events_in, firsts_behind, is_same}
+use Rattle.explain.specs.Audit.{event_in, events_in, firsts_behind, is_same, same_answer}
 use Rattle.explain.specs.inner.Events.{HaveSame, IsNext, told_on}
-use Rattle.explain.specs.declared.audited.fields.Event.{Event}
+use Rattle.explain.specs.declared.audited.event.Answer.{Answer}
+use Rattle.explain.specs.declared.audited.event.Answer.TheVariants.{Code, Kill}
+use Rattle.explain.specs.declared.audited.event.Event.{Event}
 
 -- ---- one line more
 
@@ -32,16 +34,22 @@ more_of a b c d e f new step old =
 
 -- ---- what is the same as one of two that are the same is the same as the other
 
-abbrev same : ℕ → ℕ → ℕ → Event → Bool
-same token nr code y = token == y.token && nr == y.nr && code == y.code
+answer_same : (a b : Answer) → same_answer a b ≡ true → a ≡ b
+answer_same (Code a) (Code b) h = ap (λ (code : ℕ). Code code) (eqb-true a b h)
+answer_same (Code a) Kill h = absurd (cc)
+answer_same Kill (Code b) h = absurd (cc)
+answer_same Kill Kill h = refl
+
+abbrev same : ℕ → ℕ → Answer → Event → Bool
+same token nr answer y = token == y.token && nr == y.nr && same_answer answer y.answer
 
 same_both : (a b y : Event) → is_same a b ≡ true → is_same b y ≡ true → is_same a y ≡ true
 same_both a b y h both =
-    let v = and_parts (a.token == b.token && a.nr == b.nr) (a.code == b.code) h in
+    let v = and_parts (a.token == b.token && a.nr == b.nr) (same_answer a.answer b.answer) h in
     let n = and_parts (a.token == b.token) (a.nr == b.nr) v.0 in
-    ap (λ (k : ℕ). same k a.nr a.code y) (eqb-true a.token b.token n.0)
-    ∙ ap (λ (k : ℕ). same b.token k a.code y) (eqb-true a.nr b.nr n.1)
-    ∙ ap (λ (k : ℕ). same b.token b.nr k y) (eqb-true a.code b.code v.1) ∙ both
+    ap (λ (k : ℕ). same k a.nr a.answer y) (eqb-true a.token b.token n.0)
+    ∙ ap (λ (k : ℕ). same b.token k a.answer y) (eqb-true a.nr b.nr n.1)
+    ∙ ap (λ (k : Answer). same b.token b.nr k y) (answer_same a.answer b.answer v.1) ∙ both
 
 or_right : (t r : Bool) → r ≡ true → (t || r) ≡ true
 or_right true r h = refl

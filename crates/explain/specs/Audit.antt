@@ -1,17 +1,19 @@
--- What is told of the lines that a kernel's audit writes of filters, as dmesg, journald and auditd show them.
-use Rattle.std.specs.Prelude.{ℕ, ◌≡◌, ◌≢◌, ◌⊎◌, ◌↔◌, ◌==◌, ◌^◌, ◌&&◌, nat_lt, not, Bool, true, if◌then◌else◌, List, [], ◌∷◌, ◌++◌}
-use Rattle.std.specs.Prelude.{Option, Some, None, codes, count_by, filter_map, option_and_then, take}
+-- What is told of the lines that a kernel's audit writes of filters, as dmesg, journald, auditd and `ausearch -i` show them.
+use Rattle.std.specs.Prelude.{ℕ, ◌≡◌, ◌≢◌, ◌⊎◌, ◌↔◌, ◌==◌, ◌^◌, ◌&&◌, ◌||◌, nat_lt, not, Bool, true, false, if◌then◌else◌, List, [], ◌∷◌}
+use Rattle.std.specs.Prelude.{◌++◌, Option, Some, None, codes, count_by, filter_map, is_none, is_some, length, map, option_and_then, take}
 use Rattle.std.specs.Fmt.{decimal}
 use Rattle.std.specs.List.{All, list_any, slice_split}
 use Rattle.std.specs.Option.{option_map, option_or}
-use Rattle.std.specs.Str.{is_utf8}
+use Rattle.std.specs.Str.{bytes_eq, is_utf8}
 use Rattle.texts.specs.Lines.{line_feed, space}
 use Rattle.texts.specs.Numbers.{decimal_at, hexadecimal_at}
 use Rattle.texts.specs.Splits.{behind, split_at}
-use Rattle.call_record.specs.Verdict.{action}
+use Rattle.call_record.specs.Verdict.{action, allow, errno, kill_process, kill_thread, log, trace, trap, user_notif}
 use Rattle.call_tables.specs.declared.arch.Arch.{Arch}
+use Rattle.call_tables.specs.declared.arch.Arch.TheVariants.{LinuxX86_64, LinuxX86, LinuxAarch64, LinuxArm, LinuxRiscv64, LinuxPpc64le}
 use Rattle.call_tables.specs.declared.arch.Family.{Family}
-use Rattle.call_tables.specs.Arch.{family_of}
+use Rattle.call_tables.specs.Arch.{family_of, table_of, token_of}
+use Rattle.call_tables.specs.Table.{Table, number_in}
 use Rattle.profile.specs.declared.rules.Rule.{Rule}
 use Rattle.profile.specs.Policy.{Policy}
 use Rattle.wording.specs.Lines.{lines_of}
@@ -21,9 +23,12 @@ use Rattle.wording.specs.Understood.{IsReadAs}
 use Rattle.wording.specs.declared.told.Told.{Told}
 use Rattle.explain.specs.Answers.{may_answer}
 use Rattle.explain.specs.Any.{said_lines}
-use Rattle.explain.specs.declared.audited.fields.Event.{Event}
+use Rattle.explain.specs.declared.audited.event.Answer.{Answer}
+use Rattle.explain.specs.declared.audited.event.Answer.TheVariants.{Code, Kill}
+use Rattle.explain.specs.declared.audited.event.Event.{Event}
+use Rattle.explain.specs.declared.audited.named.TheConstants.{OTHER_NAMES}
 
--- ---- what a line tells
+-- ---- the fields of a line
 
 infixl 10 ◌>>=◌
 abbrev pub ◌>>=◌ : {A B : Type 0} → Option A → (A → Option B) → Option B
@@ -33,10 +38,14 @@ o >>= f = option_and_then f o
 abbrev pub words_on : List ℕ → List (List ℕ)
 words_on line = slice_split (λ b. b == space) line
 
--- what follows the key in the first word that begins with it
-abbrev pub first_behind : List ℕ → List (List ℕ) → Option (List ℕ)
-first_behind key [] = None
-first_behind key (word ∷ words) = option_or (behind key word) (first_behind key words)
+-- what follows the key in the last word that begins with it: the names that a program gives itself stand before the fields
+abbrev pub last_behind : List ℕ → List (List ℕ) → Option (List ℕ)
+last_behind key [] = None
+last_behind key (word ∷ words) = option_or (last_behind key words) (behind key word)
+
+-- `)`
+abbrev pub closing : ℕ
+closing = 41
 
 -- U+001D: auditd says some of a line again, by names, behind it
 abbrev pub separator : ℕ
@@ -52,55 +61,160 @@ cut text = front_or (split_at separator text) text
 
 -- the value of a field
 unfoldable pub value_of : List ℕ → List ℕ → Option (List ℕ)
-value_of key line = option_map cut (first_behind key (words_on line))
+value_of key line = option_map cut (last_behind key (words_on line))
+
+-- a line of a filter's answer has these fields
+unfoldable pub has_fields : List ℕ → Bool
+has_fields line =
+    is_some (value_of (codes "arch=") line) && is_some (value_of (codes "syscall=") line) && is_some (value_of (codes "code=") line)
+
+-- ---- what their values mean, as a kernel writes them, and as auditd says them by names
 
 -- a number of 32 bits
 abbrev pub narrow : ℕ → Option ℕ
 narrow n = if nat_lt n (2 ^ 32) then Some n else None
 
--- the number in hexadecimal, and in decimal, that the value of a field is
-unfoldable pub hexadecimal_of : List ℕ → List ℕ → Option ℕ
-hexadecimal_of key line = do
-  text ← value_of key line
-  n ← hexadecimal_at text
-  narrow n
+unfoldable pub hexadecimal_of : List ℕ → Option ℕ
+hexadecimal_of text = option_and_then narrow (hexadecimal_at text)
 
-unfoldable pub decimal_of : List ℕ → List ℕ → Option ℕ
-decimal_of key line = do
-  text ← value_of key line
-  n ← decimal_at text
-  narrow n
+unfoldable pub decimal_of : List ℕ → Option ℕ
+decimal_of text = option_and_then narrow (decimal_at text)
 
--- the event that a line tells, if it tells one: a call, by its machine's token and its number, and what a filter answered
-unfoldable pub event_on : List ℕ → Option Event
-event_on line = do
-  token ← hexadecimal_of (codes "arch=") line
-  nr ← decimal_of (codes "syscall=") line
-  code ← hexadecimal_of (codes "code=0x") line
-  Some (record { token = token; nr = nr; code = code })
+-- auditd's names of machines. It says armeb of little-endian ARM.
+unfoldable pub machine_named : List ℕ → Option Arch
+machine_named word =
+    if bytes_eq word (codes "x86_64") then Some LinuxX86_64
+    else if bytes_eq word (codes "i386") then Some LinuxX86
+    else if bytes_eq word (codes "aarch64") then Some LinuxAarch64
+    else if bytes_eq word (codes "armeb") then Some LinuxArm
+    else if bytes_eq word (codes "riscv64") then Some LinuxRiscv64
+    else if bytes_eq word (codes "ppc64le") then Some LinuxPpc64le
+    else None
 
--- the same of a line of which nothing is known: one that is no UTF-8 tells none
+unfoldable pub named_token : List ℕ → Option ℕ
+named_token text = do
+  machine ← machine_named text
+  Some (token_of machine)
+
+-- the machine's token
+unfoldable pub token_in : List ℕ → Option ℕ
+token_in text = option_or (hexadecimal_of text) (named_token text)
+
+-- what auditd says of a number that it has no name for
+unfoldable pub unknown_number : List ℕ → Option ℕ
+unknown_number text = do
+  digits ← behind (codes "unknown-syscall(") text
+  parts ← split_at closing digits
+  if length parts.1 == 0 then decimal_of parts.0 else None
+
+-- the names of calls that auditd has in place of Linux's, each with Linux's
+unfoldable pub other_names : List (List ℕ × List ℕ)
+other_names = map (λ e. (e.0.now, e.1.now)) OTHER_NAMES.now
+
+-- the number of the call that has the name in place of Linux's
+abbrev pub number_by : List (List ℕ × List ℕ) → Table → List ℕ → Option ℕ
+number_by [] table name = None
+number_by (e ∷ es) table name = if bytes_eq e.0 name then number_in table e.1 else number_by es table name
+
+-- the number of a call of a machine by its name
+unfoldable pub call_named : Arch → List ℕ → Option ℕ
+call_named machine name = option_or (number_in (table_of machine) name) (number_by other_names (table_of machine) name)
+
+-- of the machine that auditd names beside it: beside a machine that it does not know it names those of another
+unfoldable pub named_number : List ℕ → List ℕ → Option ℕ
+named_number machine name = do
+  arch ← machine_named machine
+  call_named arch name
+
+-- the number of the call
+unfoldable pub call_in : List ℕ → List ℕ → Option ℕ
+call_in machine text = option_or (option_or (decimal_of text) (unknown_number text)) (named_number machine text)
+
+-- auditd's names of actions. It has kill or kill-thread for both kills.
+unfoldable pub action_named : List ℕ → Option Answer
+action_named word =
+    if bytes_eq word (codes "errno") then Some (Code errno)
+    else if bytes_eq word (codes "log") then Some (Code log)
+    else if bytes_eq word (codes "kill") then Some Kill
+    else if bytes_eq word (codes "kill-thread") then Some Kill
+    else if bytes_eq word (codes "kill-process") then Some (Code kill_process)
+    else if bytes_eq word (codes "trap") then Some (Code trap)
+    else if bytes_eq word (codes "trace") then Some (Code trace)
+    else if bytes_eq word (codes "user-notify") then Some (Code user_notif)
+    else if bytes_eq word (codes "allow") then Some (Code allow)
+    else None
+
+unfoldable pub written_code : List ℕ → Option Answer
+written_code text = do
+  digits ← behind (codes "0x") text
+  code ← hexadecimal_of digits
+  Some (Code code)
+
+-- what the filter answered
+unfoldable pub answer_in : List ℕ → Option Answer
+answer_in text = option_or (written_code text) (action_named text)
+
+-- ---- what a line tells
+
+abbrev pub text_of : List ℕ → Option (List ℕ)
+text_of value = if is_utf8 value then Some value else None
+
+-- the value of a field, if it is UTF-8
+unfoldable pub text_on : List ℕ → List ℕ → Option (List ℕ)
+text_on key line = option_and_then text_of (value_of key line)
+
+-- a call, by its machine's token and its number, and what a filter answered
+unfoldable pub event_of : List ℕ → List ℕ → List ℕ → Option Event
+event_of arch call code = do
+  token ← token_in arch
+  nr ← call_in arch call
+  answer ← answer_in code
+  Some (record { token = token; nr = nr; answer = answer })
+
+-- the event that a line tells, if it tells one
 unfoldable pub event_in : List ℕ → Option Event
-event_in line = if is_utf8 line then event_on line else None
+event_in line = do
+  arch ← text_on (codes "arch=") line
+  call ← text_on (codes "syscall=") line
+  code ← text_on (codes "code=") line
+  event_of arch call code
+
+-- it has the fields, and tells none
+unfoldable pub is_unread : List ℕ → Bool
+is_unread line = has_fields line && is_none (event_in line)
 
 -- the events that the lines of a text tell, in order
 abbrev pub events_in : List ℕ → List Event
 events_in text = filter_map event_in (lines_of text)
 
+-- how many lines are not read
+abbrev pub count_unread : List ℕ → ℕ
+count_unread text = count_by is_unread (lines_of text)
+
 -- ---- what a profile says of it
 
 -- the profile may answer so to the call. A kernel writes the action without its data.
+abbrev pub may_give : Policy → ℕ → ℕ → Answer → Bool
+may_give p token nr (Code code) = may_answer p token nr (action code)
+may_give p token nr Kill = may_answer p token nr kill_process || may_answer p token nr kill_thread
+
 abbrev pub may_be : Policy → Event → Bool
-may_be p e = may_answer p e.token e.nr (action e.code)
+may_be p e = may_give p e.token e.nr e.answer
 
 abbrev pub MayBe : Policy → Event → Type 0
 MayBe p e = may_be p e ≡ true
 
 -- ---- which are listed
 
+abbrev pub same_answer : Answer → Answer → Bool
+same_answer (Code a) (Code b) = a == b
+same_answer (Code a) Kill = false
+same_answer Kill (Code b) = false
+same_answer Kill Kill = true
+
 -- the same answer to the same call
 abbrev pub is_same : Event → Event → Bool
-is_same a b = a.token == b.token && a.nr == b.nr && a.code == b.code
+is_same a b = a.token == b.token && a.nr == b.nr && same_answer a.answer b.answer
 
 -- those that are the same as none before them
 abbrev pub firsts_behind : List Event → List Event → List Event
@@ -117,11 +231,13 @@ count_others events = count_by (λ e. not (list_any (λ b. is_same b e) (listed 
 
 -- ---- how they are told
 
+abbrev pub answer_line : Answer → List ℕ
+answer_line (Code code) = hexadecimal code ++ codes " " ++ action_text code ++ line_feed ∷ []
+answer_line Kill = codes "kill KILL_PROCESS or KILL_THREAD" ++ line_feed ∷ []
+
 -- how many lines tell it, and the answer
 abbrev pub times_line : List Event → Event → List ℕ
-times_line all e =
-    codes "told " ++ decimal (count_by (is_same e) all) ++ codes " times, code " ++ hexadecimal e.code ++ codes " " ++ action_text e.code
-    ++ line_feed ∷ []
+times_line all e = codes "told " ++ decimal (count_by (is_same e) all) ++ codes " times, code " ++ answer_line e.answer
 
 abbrev pub may_line : Bool → List ℕ
 may_line may =
@@ -151,25 +267,30 @@ lines_behind family p rules ends all before (e ∷ es) =
 abbrev pub others_line : ℕ → List ℕ
 others_line n = if n == 0 then [] else codes "more lines that tell others: " ++ decimal n ++ line_feed ∷ []
 
-abbrev pub audit_text : Family → Policy → List Rule → List ℕ → List Event → List ℕ
-audit_text family p rules ends events =
-    lines_behind family p rules ends events [] (listed events) ++ others_line (count_others events)
+abbrev pub unread_line : ℕ → List ℕ
+unread_line n = if n == 0 then [] else codes "lines of filters that are not read: " ++ decimal n ++ line_feed ∷ []
+
+abbrev pub audit_text : Family → Policy → List Rule → List ℕ → List Event → ℕ → List ℕ
+audit_text family p rules ends events unread =
+    lines_behind family p rules ends events [] (listed events) ++ others_line (count_others events) ++ unread_line unread
 
 -- ---- what is answered
 
--- no line tells an event, and the line that says so is told
-pub record RefusesLines (events : List Event) (told : Told) : Type 0 where
+-- no line is of a filter's answer, and the line that says so is told
+pub record RefusesLines (events : List Event) (unread : ℕ) (told : Told) : Type 0 where
   pub none : events ≡ []
+  pub all_read : unread ≡ 0
   pub tells : TellsLine (codes "refused lines: none has arch, syscall and code") told
 
--- Each event is told once. It is done just where the profile may answer so to each.
-pub record TellsEvents (family : Family) (p : Policy) (rules : List Rule) (ends : List ℕ) (events : List Event) (told : Told) : Type 0 where
-  pub some : events ≢ []
-  pub tells : told.bytes.items ≡ audit_text family p rules ends events
-  pub done : (told.done ≡ true) ↔ All (MayBe p) events
+-- Each event is told once. It is done just where the profile may answer so to each, and each line is read.
+pub record TellsEvents (family : Family) (p : Policy) (rules : List Rule) (ends : List ℕ) (events : List Event) (unread : ℕ)
+    (told : Told) : Type 0 where
+  pub some : (events ≢ []) ⊎ (unread ≢ 0)
+  pub tells : told.bytes.items ≡ audit_text family p rules ends events unread
+  pub done : (told.done ≡ true) ↔ (All (MayBe p) events × (unread ≡ 0))
 
-abbrev pub AnswersEvents : Family → Policy → List Rule → List ℕ → List Event → Told → Type 0
-AnswersEvents family p rules ends events told = RefusesLines events told ⊎ TellsEvents family p rules ends events told
+abbrev pub AnswersEvents : Family → Policy → List Rule → List ℕ → List Event → ℕ → Told → Type 0
+AnswersEvents family p rules ends events unread told = RefusesLines events unread told ⊎ TellsEvents family p rules ends events unread told
 
 -- the profile that the bundle means was asked about the events that the lines tell
 pub record AsksBundle (native : Arch) (bundle lines : List ℕ) (told : Told) : Type 0 where
@@ -177,7 +298,7 @@ pub record AsksBundle (native : Arch) (bundle lines : List ℕ) (told : Told) : 
   pub rules : List Rule
   pub ends : List ℕ
   pub read : IsReadAs native bundle policy rules ends
-  pub answers : AnswersEvents (family_of native) policy rules ends (events_in lines) told
+  pub answers : AnswersEvents (family_of native) policy rules ends (events_in lines) (count_unread lines) told
 
 abbrev pub IsAudited : Arch → List ℕ → List ℕ → Told → Type 0
 IsAudited native bundle lines told = RefusesBundle native bundle told ⊎ AsksBundle native bundle lines told

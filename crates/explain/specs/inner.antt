@@ -1,3 +1,4 @@
 pub mod Found
 pub mod Events
 pub mod Times
+pub mod Names

@@ -2,9 +2,11 @@
 mod answers;
 mod any;
 mod auditing;
+mod event;
 mod events;
 mod fields;
 mod lines;
+mod named;
 mod what;
 
 pub(crate) use answers::what_may_not_never_does;

@@ -2,7 +2,7 @@
 use Rattle.std.specs.Prelude.{◌≡◌, if◌then◌else◌, List, [], ◌∷◌, ◌++◌, Option, Some, None}
 use Rattle.std.specs.List.{list_any}
 use Rattle.explain.specs.Audit.{is_same}
-use Rattle.explain.specs.declared.audited.fields.Event.{Event}
+use Rattle.explain.specs.declared.audited.event.Event.{Event}
 
 abbrev pub told_on : Option Event → List Event
 told_on None = []

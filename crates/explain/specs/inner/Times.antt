@@ -1,10 +1,9 @@
 -- How often an event is told.
-use Rattle.std.specs.Prelude.{ℕ, List, [], ◌∷◌, ◌++◌, codes}
+use Rattle.std.specs.Prelude.{ℕ, List, ◌++◌, codes}
 use Rattle.std.specs.Fmt.{decimal}
-use Rattle.texts.specs.Lines.{line_feed}
-use Rattle.wording.specs.Phrases.{action_text, hexadecimal}
+use Rattle.explain.specs.Audit.{answer_line}
+use Rattle.explain.specs.declared.audited.event.Answer.{Answer}
 
--- so many lines tell an action
-abbrev pub counted_line : ℕ → ℕ → List ℕ
-counted_line n code =
-    codes "told " ++ decimal n ++ codes " times, code " ++ hexadecimal code ++ codes " " ++ action_text code ++ line_feed ∷ []
+-- so many lines tell an answer
+abbrev pub counted_line : ℕ → Answer → List ℕ
+counted_line n answer = codes "told " ++ decimal n ++ codes " times, code " ++ answer_line answer

@@ -1,6 +1,7 @@
 //! What a bundle says of the lines of a kernel's audit.
-ghost use Rattle.std.specs.Prelude.{◌≡◌, ◌++◌, ◌∷◌, [], IfErr, IfOk, IfSome, codes, string_bytes};
+ghost use Rattle.std.specs.Prelude.{◌≡◌, ◌++◌, ◌∷◌, ◌==◌, ◌&&◌, [], IfErr, IfOk, IfSome, codes, length, string_bytes};
 ghost use Rattle.std.specs.Fmt.{decimal};
+ghost use Rattle.std.specs.List.{list_all};
 ghost use Rattle.texts.specs.Lines.{line_feed};
 ghost use Rattle.wording.specs.Phrases.{action_text, hexadecimal};
 ghost use Rattle.explain.specs.Audit as spec;
@@ -9,10 +10,10 @@ ghost use Rattle.profile_json.specs.Breaks.{Breaks};
 ghost use Rattle.profile_json.specs.Fault.{fault_of};
 ghost use Rattle.wording.specs.Told.{TellsLine};
 
+use crate::audited::event::{Answer, Event};
 use crate::audited::events::{
-    all_may_be, count_of, count_others, events_in, has_call, listed, may_be,
+    all_may_be, count_of, count_others, count_unread, events_in, has_call, listed, may_be,
 };
-use crate::audited::fields::Event;
 use crate::audited::lines::{put_number, put_said};
 use call_record::Word;
 use call_tables::{Arch, Family};
@@ -44,20 +45,32 @@ fn put_action(text: &mut String, code: u32) -> Result<(), AllocError>
     writeln!(text, "{action}")
 }
 
+// Adds an answer, and its action.
+fn put_answer(text: &mut String, answer: Answer) -> Result<(), AllocError>
+    ensures { IfOk result (λ _. string_bytes text.new ≡ string_bytes text.old ++ spec.answer_line answer) }
+{
+    match answer {
+        Answer::Code(code) => {
+            put_code(text, code)?;
+            put_action(text, code)
+        }
+        Answer::Kill => text.push_str("kill KILL_PROCESS or KILL_THREAD\n"),
+    }
+}
+
 // Adds that so many lines tell an answer.
-fn put_counted(text: &mut String, count: usize, code: u32) -> Result<(), AllocError>
-    ensures { IfOk result (λ _. string_bytes text.new ≡ string_bytes text.old ++ counted_line count code) }
+fn put_counted(text: &mut String, count: usize, answer: Answer) -> Result<(), AllocError>
+    ensures { IfOk result (λ _. string_bytes text.new ≡ string_bytes text.old ++ counted_line count answer) }
 {
     put_count(text, count)?;
-    put_code(text, code)?;
-    put_action(text, code)
+    put_answer(text, answer)
 }
 
 // Adds how many lines tell an event, and the answer.
 fn put_times(text: &mut String, all: &[Event], event: &Event) -> Result<(), AllocError>
     ensures { IfOk result (λ _. string_bytes text.new ≡ string_bytes text.old ++ spec.times_line all.now event.now) }
 {
-    put_counted(text, count_of(event, all), event.code)
+    put_counted(text, count_of(event, all), event.answer)
 }
 
 // Adds whether the bundle may answer so.
@@ -136,21 +149,33 @@ fn put_others(text: &mut String, others: usize) -> Result<(), AllocError>
     writeln!(text, "more lines that tell others: {others}")
 }
 
-// The text that a profile tells of events.
+// Adds how many lines are not read, if there are some.
+fn put_unread(text: &mut String, unread: usize) -> Result<(), AllocError>
+    ensures { IfOk result (λ _. string_bytes text.new ≡ string_bytes text.old ++ spec.unread_line unread) }
+{
+    if unread == 0 {
+        return Ok(());
+    }
+    writeln!(text, "lines of filters that are not read: {unread}")
+}
+
+// The text that a profile tells of events, and of how many lines are not read.
 fn text_of(
     alloc: Global,
     family: Family,
     profile: &Profile,
     all: &EntryRules,
     events: &[Event],
+    unread: usize,
 ) -> Result<String, AllocError>
     ensures { IfOk result (λ text. string_bytes text
-        ≡ spec.audit_text family profile.now all.now.rules.items all.now.ends.items events.now) }
+        ≡ spec.audit_text family profile.now all.now.rules.items all.now.ends.items events.now unread) }
 {
     let firsts = listed(alloc, events)?;
     let mut text = String::new(alloc);
     put_events(&mut text, family, profile, all, events, &firsts)?;
     put_others(&mut text, count_others(&firsts, events))?;
+    put_unread(&mut text, unread)?;
     Ok(text)
 }
 
@@ -164,23 +189,44 @@ fn no_event(alloc: Global) -> Result<Told, AllocError>
     })
 }
 
-// What a profile says of events.
+// Whether no line is of a filter's answer.
+fn is_nothing(events: &[Event], unread: usize) -> bool
+    ensures { result ≡ (length events.now == 0 && unread == 0) }
+{
+    if events.is_empty() {
+        return unread == 0;
+    }
+    false
+}
+
+// Whether a profile may answer so in each event, and each line is read.
+fn is_done(profile: &Profile, events: &[Event], unread: usize) -> bool
+    ensures { result ≡ (unread == 0 && list_all (spec.may_be profile.now) events.now) }
+{
+    if unread == 0 {
+        return all_may_be(profile, events);
+    }
+    false
+}
+
+// What a profile says of events, beside which so many lines are not read.
 fn told_of(
     alloc: Global,
     family: Family,
     profile: &Profile,
     all: &EntryRules,
     events: &[Event],
+    unread: usize,
 ) -> Result<Told, AllocError>
-    ensures { IfOk result (spec.AnswersEvents family profile.now all.now.rules.items all.now.ends.items events.now) }
+    ensures { IfOk result (spec.AnswersEvents family profile.now all.now.rules.items all.now.ends.items events.now unread) }
 {
-    if events.is_empty() {
+    if is_nothing(events, unread) {
         return no_event(alloc);
     }
-    let text = text_of(alloc, family, profile, all, events)?;
+    let text = text_of(alloc, family, profile, all, events, unread)?;
     Ok(Told {
         bytes: text.into_bytes(),
-        done: all_may_be(profile, events),
+        done: is_done(profile, events, unread),
     })
 }
 
@@ -193,13 +239,14 @@ fn audited(alloc: Global, native: Arch, bundle: &[u8], lines: &[u8]) -> Result<T
     let read = read_bundle(alloc, bundle, native)?;
     let all = rules_by_entry(alloc, bundle, native)?;
     let events = events_in(alloc, lines)?;
-    let told = told_of(alloc, native.family(), &read.profile, &all, &events)?;
+    let unread = count_unread(lines);
+    let told = told_of(alloc, native.family(), &read.profile, &all, &events, unread)?;
     Ok(told)
 }
 
-/// Tells of each call that lines of a kernel's audit show, as dmesg, journald and auditd write them, what it was, whether a
-/// bundle, which is read for a native machine, may answer so, and what the bundle says of it. It is done where the bundle may answer
-/// so in each line.
+/// Tells of each call that lines of a kernel's audit show, as dmesg, journald, auditd and `ausearch -i` write them, what it was, whether
+/// a bundle, which is read for a native machine, may answer so, and what the bundle says of it. It is done where the bundle may answer
+/// so in each line of a filter's answer, and each is read.
 pub fn audit(alloc: Global, native: Arch, bundle: &[u8], lines: &[u8]) -> Result<Told, AllocError>
     ensures { IfOk result (spec.IsAudited native bundle.now lines.now) }
 {

@@ -1,12 +1,13 @@
 //! The events that the lines of a kernel's audit tell.
-ghost use Rattle.std.specs.Prelude.{◌≡◌, ◌++◌, List, IfOk, count_by, not};
+ghost use Rattle.std.specs.Prelude.{◌≡◌, ◌++◌, List, IfOk, count_by, if◌then◌else◌, not};
 ghost use Rattle.std.specs.List.{list_all, list_any};
 ghost use Rattle.explain.specs.Audit as spec;
-ghost use Rattle.explain.specs.declared.audited.fields.Event.{Event as TheEvent};
+ghost use Rattle.explain.specs.declared.audited.event.Answer.TheVariants.{Kill};
+ghost use Rattle.explain.specs.declared.audited.event.Event.{Event as TheEvent};
 ghost use Rattle.explain.specs.inner.Events.{HaveSame, IsNext, told_on};
 
 use crate::audited::answers::may_answer;
-use crate::audited::fields::{Event, event_in};
+use crate::audited::event::{Answer, Event, event_in, is_unread};
 use call_record::Word;
 use profile::Profile;
 use std::alloc::{AllocError, Global};
@@ -42,11 +43,44 @@ pub(crate) fn events_in(alloc: Global, text: &[u8]) -> Result<Vec<Event>, AllocE
     Ok(events)
 }
 
+// How many of one line have the fields of a filter's answer and are not understood.
+fn count_in(line: &[u8]) -> usize
+    ensures { result ≡ (if spec.is_unread line.now then 1 else 0) }
+{
+    if is_unread(line) { 1 } else { 0 }
+}
+
+/// How many lines have these fields and are not understood.
+pub(crate) fn count_unread(text: &[u8]) -> usize
+    ensures { result ≡ spec.count_unread text.now }
+{
+    let mut count = 0;
+    let mut rest = text;
+    'line: while let Some((line, more)) = split_line(rest) {
+        count += count_in(line);
+        rest = more;
+    }
+    count + count_in(rest)
+}
+
+// Whether a profile may answer a call with one of the two kills.
+fn may_kill(profile: &Profile, token: u32, nr: u32) -> bool
+    ensures { result ≡ spec.may_give profile.now token nr Kill }
+{
+    if may_answer(profile, token, nr, Word::KILL_PROCESS) {
+        return true;
+    }
+    may_answer(profile, token, nr, Word::KILL_THREAD)
+}
+
 /// Whether a profile may answer as an event tells. A kernel writes the action without its data.
 pub(crate) fn may_be(profile: &Profile, event: Event) -> bool
     ensures { result ≡ spec.may_be profile.now event }
 {
-    may_answer(profile, event.token, event.nr, Word(event.code).action())
+    match event.answer {
+        Answer::Code(code) => may_answer(profile, event.token, event.nr, Word(code).action()),
+        Answer::Kill => may_kill(profile, event.token, event.nr),
+    }
 }
 
 /// Whether it may answer so in each.
@@ -54,6 +88,17 @@ pub(crate) fn all_may_be(profile: &Profile, events: &[Event]) -> bool
     ensures { result ≡ list_all (spec.may_be profile.now) events.now }
 {
     events.iter().all(|event| may_be(profile, *event))
+}
+
+// Whether two answers are the same.
+fn same_answer(a: Answer, b: Answer) -> bool
+    ensures { result ≡ spec.same_answer a b }
+{
+    match (a, b) {
+        (Answer::Code(a), Answer::Code(b)) => a == b,
+        (Answer::Code(_), Answer::Kill) | (Answer::Kill, Answer::Code(_)) => false,
+        (Answer::Kill, Answer::Kill) => true,
+    }
 }
 
 // Whether two tell the same answer to the same call.
@@ -66,7 +111,7 @@ fn is_same(a: &Event, b: &Event) -> bool
     if a.nr != b.nr {
         return false;
     }
-    a.code == b.code
+    same_answer(a.answer, b.answer)
 }
 
 // Whether one of them is the same as another.

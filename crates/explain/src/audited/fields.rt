@@ -1,104 +1,85 @@
-//! Lines that a kernel's audit writes of filters, as dmesg, journald and auditd show them.
+//! The fields of a line of a kernel's audit. A line may hold any bytes: `ausearch -i` writes a program's names as they are.
 ghost use Rattle.std.specs.Prelude.{◌≡◌, ◌<◌, ◌∷◌, [], IfSome, MatchOption, length};
 ghost use Rattle.std.specs.Option.{option_map};
-ghost use Rattle.texts.specs.Splits.{behind};
+ghost use Rattle.texts.specs.Splits.{behind, split_at};
 ghost use Rattle.explain.specs.Audit as spec;
 
-use texts::{decimal, hexadecimal, split};
+// What auditd writes in front of what it says of a line again, by names.
+const SEPARATOR: u8 = 0x1d;
 
-/// What such a line tells: the machine's token, the number of the call, and the action that a filter gave.
-#[derive(Clone, Copy)]
-pub(crate) struct Event {
-    pub(crate) token: u32,
-    pub(crate) nr: u32,
-    pub(crate) code: u32,
+// What stands before the first such byte, and what stands behind it.
+fn split(line: &[u8], byte: u8) -> Option<(&[u8], &[u8])>
+    ensures { option_map (λ parts. (parts.0.now, parts.1.now)) result ≡ split_at byte line.now }
+{
+    for (at, here) in line.iter().enumerate() {
+        if *here == byte {
+            return Some((&line[..at], &line[at + 1..]));
+        }
+    }
+    None
 }
 
-// A text at its first space, if it has one.
-fn split_word(text: &str) -> Option<(&str, &str)>
-    ensures words { MatchOption result (spec.words_on text.now ≡ text.now ∷ [])
-        (λ parts. spec.words_on text.now ≡ parts.0.now ∷ spec.words_on parts.1.now) }
-    ensures shorter { IfSome result (λ parts. length parts.1.now < length text.now) }
+// A line at its first space, if it has one.
+fn split_word(line: &[u8]) -> Option<(&[u8], &[u8])>
+    ensures words { MatchOption result (spec.words_on line.now ≡ line.now ∷ [])
+        (λ parts. spec.words_on line.now ≡ parts.0.now ∷ spec.words_on parts.1.now) }
+    ensures shorter { IfSome result (λ parts. length parts.1.now < length line.now) }
 {
-    split(text, ' ')
+    split(line, b' ')
 }
 
 // What follows a key in a word, if the word begins with it.
-fn text_behind<'a>(key: &str, word: &'a str) -> Option<&'a str>
+fn rest_behind<'a>(key: &[u8], word: &'a [u8]) -> Option<&'a [u8]>
     ensures { option_map (λ text. text.now) result ≡ behind key.now word.now }
 {
     word.strip_prefix(key)
 }
 
-// What follows a key in the first word that begins with it.
-fn first_behind<'a>(key: &str, line: &'a str) -> Option<&'a str>
-    ensures { option_map (λ text. text.now) result ≡ spec.first_behind key.now (spec.words_on line.now) }
+// What follows a key in the last word that begins with it.
+fn last_behind<'a>(key: &[u8], line: &'a [u8]) -> Option<&'a [u8]>
+    ensures { option_map (λ text. text.now) result ≡ spec.last_behind key.now (spec.words_on line.now) }
 {
+    let mut found = None;
     let mut rest = line;
     'word: while let Some((word, more)) = split_word(rest) {
-        if let Some(text) = text_behind(key, word) {
-            return Some(text);
-        }
+        found = rest_behind(key, word).or(found);
         rest = more;
     }
-    text_behind(key, rest)
+    rest_behind(key, rest).or(found)
 }
 
-// A text as far as auditd's separator. Behind it some of a line is said again, by names.
+// A value as far as auditd's separator.
 #[tactic(auto, unfolding(crate::specs::Audit::cut))]
-fn cut(text: &str) -> &str
-    ensures { result.now ≡ spec.cut text.now }
+fn cut(value: &[u8]) -> &[u8]
+    ensures { result.now ≡ spec.cut value.now }
 {
-    match split(text, '\u{1d}') {
+    match split(value, SEPARATOR) {
         Some((front, _)) => front,
-        None => text,
+        None => value,
     }
 }
 
-// The value of a field.
+/// The value of a field.
 #[tactic(auto, unfolding(crate::specs::Audit::value_of))]
-fn value<'a>(key: &str, line: &'a str) -> Option<&'a str>
+pub(crate) fn value<'a>(key: &[u8], line: &'a [u8]) -> Option<&'a [u8]>
     ensures { option_map (λ text. text.now) result ≡ spec.value_of key.now line.now }
 {
-    match first_behind(key, line) {
+    match last_behind(key, line) {
         Some(text) => Some(cut(text)),
         None => None,
     }
 }
 
-// The number in hexadecimal that the value of a field is.
-#[tactic(auto, unfolding(crate::specs::Audit::hexadecimal_of))]
-fn hexadecimal_value(key: &str, line: &str) -> Option<u32>
-    ensures { result ≡ spec.hexadecimal_of key.now line.now }
+/// Whether a line has the fields of a filter's answer.
+#[tactic(auto, unfolding(crate::specs::Audit::has_fields))]
+pub(crate) fn has_fields(line: &[u8]) -> bool
+    ensures { result ≡ spec.has_fields line.now }
 {
-    u32::try_from(hexadecimal(value(key, line)?)?).ok()
-}
-
-// The number in decimal.
-#[tactic(auto, unfolding(crate::specs::Audit::decimal_of))]
-fn decimal_value(key: &str, line: &str) -> Option<u32>
-    ensures { result ≡ spec.decimal_of key.now line.now }
-{
-    u32::try_from(decimal(value(key, line)?)?).ok()
-}
-
-// What a line of text tells, if it is one of a filter's answers: it has the fields `arch`, `syscall` and `code`.
-#[tactic(auto, unfolding(crate::specs::Audit::event_on))]
-fn event_on(line: &str) -> Option<Event>
-    ensures { result ≡ spec.event_on line.now }
-{
-    let token = hexadecimal_value("arch=", line)?;
-    let nr = decimal_value("syscall=", line)?;
-    let code = hexadecimal_value("code=0x", line)?;
-    Some(Event { token, nr, code })
-}
-
-/// What a line tells, if it is text, and one of a filter's answers.
-pub(crate) fn event_in(line: &[u8]) -> Option<Event>
-    ensures { result ≡ spec.event_in line.now }
-{
-    match str::from_utf8(line) {
-        Ok(text) => event_on(text),
-        Err(_) => None,
+    if value(b"arch=", line).is_none() {
+        return false;
     }
+    if value(b"syscall=", line).is_none() {
+        return false;
+    }
+    value(b"code=", line).is_some()
 }

@@ -1,6 +1,5 @@
-use Rattle.std.proofs.Common.{ℕ, List, subst, sym}
+use Rattle.std.proofs.Common.{ℕ, List, subst}
 use Rattle.std.specs.Prelude.{Some, None}
-use Rattle.std.specs.Option.{option_map}
 use Rattle.script.specs.Grammar.{LineIs}
 use Rattle.script.specs.Requests.{command_of}
 use Rattle.explain.proofs.AskedLaws.{not_on_line, on_line}

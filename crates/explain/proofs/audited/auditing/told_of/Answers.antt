@@ -1,27 +1,23 @@
-use Rattle.std.proofs.Common.{◌≡◌, ◌∙◌, [], ap, inl, inr, length, sym}
+use Rattle.std.proofs.Common.{◌∙◌, inl, inr, sym}
 use Rattle.std.specs.Prelude.{codes}
-use Rattle.std.proofs.lemmas.Bool.{eqb-false, eqb-true}
-use Rattle.std.proofs.lemmas.List.{nil_from_length}
 use Rattle.wording.proofs.Results.{if_ok_weaker}
 use Rattle.wording.specs.Told.{TellsLine}
 use Rattle.explain.specs.Audit.{AnswersEvents}
-use Rattle.explain.proofs.AuditLaws.{done_is}
+use Rattle.explain.proofs.AuditLaws.{done_is, nothing_is, some_is}
 use Rattle.explain.proofs.audited.auditing.told_of.Goals as goal
 
-pub returns-then-is_empty : goal.returns-then-is_empty
-returns-then-is_empty c =
-    let p = c.args.profile.now in
-    let rules = c.args.all.now.rules.items in
-    let ends = c.args.all.now.ends.items in
+pub returns-then-is_nothing : goal.returns-then-is_nothing
+returns-then-is_nothing c =
     let events = c.args.events.now in
-    let nothing : events ≡ [] =
-    nil_from_length events (eqb-true (length events) 0 (sym c.is_empty.ensures ∙ c.if-is_empty.true)) in
-    if_ok_weaker (TellsLine (codes "refused lines: none has arch, syscall and code")) (AnswersEvents c.args.family p rules ends events)
-    (λ told tells. inl (record { none = nothing; tells = tells })) c.no_event.result c.no_event.ensures
+    let unread = c.args.unread in
+    let nothing = nothing_is events unread (sym c.is_nothing.ensures ∙ c.if-is_nothing.true) in
+    if_ok_weaker (TellsLine (codes "refused lines: none has arch, syscall and code"))
+    (AnswersEvents c.args.family c.args.profile.now c.args.all.now.rules.items c.args.all.now.ends.items events unread)
+    (λ told tells. inl (record { none = nothing.0; all_read = nothing.1; tells = tells })) c.no_event.result c.no_event.ensures
 
 pub returns : goal.returns
 returns c = inr (record {
-  some = λ none. eqb-false (length c.args.events.now) 0 (sym c.is_empty.ensures ∙ c.if-is_empty.false) (ap length none);
+  some = some_is c.args.events.now c.args.unread (sym c.is_nothing.ensures ∙ c.if-is_nothing.false);
   tells = rw c.into_bytes.ensures.value c.in_ok-text.ensures;
-  done = done_is c.args.profile.now c.args.events.now c.all_may_be.result c.all_may_be.ensures;
+  done = done_is c.args.profile.now c.args.events.now c.args.unread c.is_done.result c.is_done.ensures;
 })

@@ -2,7 +2,7 @@ use Rattle.std.proofs.Common.{◌++◌, List, ap, sym, ◌∙◌}
 use Rattle.std.specs.Prelude.{None, Some}
 use Rattle.explain.specs.Audit.{event_in, events_in}
 use Rattle.explain.specs.inner.Events.{told_on}
-use Rattle.explain.specs.declared.audited.fields.Event.{Event}
+use Rattle.explain.specs.declared.audited.event.Event.{Event}
 use Rattle.explain.proofs.EventLaws.{events_step, more_of}
 use Rattle.explain.proofs.audited.events.events_in.Goals as goal
 

@@ -1,0 +1,75 @@
+//! What a line of a kernel's audit tells of a filter, as dmesg, journald, auditd and `ausearch -i` show it.
+ghost use Rattle.std.specs.Prelude.{◌≡◌};
+ghost use Rattle.std.specs.Option.{option_map};
+ghost use Rattle.explain.specs.Audit as spec;
+
+use crate::audited::fields::{has_fields, value};
+use crate::audited::named::{answer, call, token};
+
+/// What a filter answered.
+#[derive(Clone, Copy)]
+pub(crate) enum Answer {
+    /// By its number.
+    Code(u32),
+    /// One of the two kills: auditd has one word for both.
+    Kill,
+}
+
+/// What such a line tells: the machine's token, the number of the call, and what a filter answered.
+#[derive(Clone, Copy)]
+pub(crate) struct Event {
+    pub(crate) token: u32,
+    pub(crate) nr: u32,
+    pub(crate) answer: Answer,
+}
+
+// A value as text.
+fn text_of(value: &[u8]) -> Option<&str>
+    ensures { option_map (λ text. text.now) result ≡ spec.text_of value.now }
+{
+    match str::from_utf8(value) {
+        Ok(text) => Some(text),
+        Err(_) => None,
+    }
+}
+
+// The value of a field, if it is text.
+#[tactic(auto, unfolding(crate::specs::Audit::text_on))]
+fn text<'a>(key: &[u8], line: &'a [u8]) -> Option<&'a str>
+    ensures { option_map (λ text. text.now) result ≡ spec.text_on key.now line.now }
+{
+    text_of(value(key, line)?)
+}
+
+// What the values of the three fields tell.
+#[tactic(auto, unfolding(crate::specs::Audit::event_of))]
+fn event_of(machine: &str, number: &str, code: &str) -> Option<Event>
+    ensures { result ≡ spec.event_of machine.now number.now code.now }
+{
+    let token = token(machine)?;
+    let nr = call(machine, number)?;
+    let answer = answer(code)?;
+    Some(Event { token, nr, answer })
+}
+
+/// What a line tells, if it is one of a filter's answers: it has the fields `arch`, `syscall` and `code`, and they are understood.
+#[tactic(auto, unfolding(crate::specs::Audit::event_in))]
+pub(crate) fn event_in(line: &[u8]) -> Option<Event>
+    ensures { result ≡ spec.event_in line.now }
+{
+    let machine = text(b"arch=", line)?;
+    let number = text(b"syscall=", line)?;
+    let code = text(b"code=", line)?;
+    event_of(machine, number, code)
+}
+
+/// Whether a line has these fields, and they are not understood.
+#[tactic(auto, unfolding(crate::specs::Audit::is_unread))]
+pub(crate) fn is_unread(line: &[u8]) -> bool
+    ensures { result ≡ spec.is_unread line.now }
+{
+    if has_fields(line) {
+        return event_in(line).is_none();
+    }
+    false
+}
