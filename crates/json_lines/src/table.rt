@@ -52,6 +52,7 @@ may_answer the bundle may answer so
 never_answers the bundle never answers so: another filter did
 entries_above entries as above
 more_lines more lines that tell others: {lines}
+not_read lines of filters that are not read: {lines}
 refused_profile refused profile {number} {fault} {of}
 refused_profile refused profile {number} {fault}
 refused_call refused call
