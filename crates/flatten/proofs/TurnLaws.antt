@@ -35,9 +35,9 @@ mapped_plain : (word : ℕ) (p : List Insn) → ArePlain p → ArePlain (mapped 
 mapped_plain word [] h = refl
 mapped_plain word (i ∷ p) h =
     both_true (is_plain (mapped_insn word i)) (list_all is_plain (mapped word p)) (by_test (is_return i)) (mapped_plain word p (rest_plain i p h)) where
-  by_test : (b : Bool) → is_plain (if b then return_of (both word i.k) else i) ≡ true
-  by_test true = return_plain (both word i.k)
-  by_test false = first_plain i p h
+      by_test : (b : Bool) → is_plain (if b then return_of (both word i.k) else i) ≡ true
+      by_test true = return_plain (both word i.k)
+      by_test false = first_plain i p h
 
 block_plain : (word : ℕ) (p : List Insn) → ArePlain p → ArePlain (block word p)
 block_plain word p h =
@@ -65,12 +65,15 @@ none_added area h small = record { added = []; is = sym (append_nil area); plain
 
 pub passes : (older area new more_ : List Insn) (word at : ℕ) → ArePlain older → at ≡ length area → at ≤ 4096 → new ≡ area ++ block word older
     → IsTurn older (new ++ more_) word (Passes at)
-passes older area new more_ word at plain here small e = (small, λ r s v empty h.
-    let own = block word older in
-    let parts : new ++ more_ ≡ area ++ (own ++ more_) = ap (λ p. p ++ more_) e ∙ append_assoc area own more_ in
-    ap (λ p. given p at s r) parts
-    ∙ behind area (own ++ more_) at 0 s r (omega (arith, here))
-    ∙ more own more_ 0 s r (both word v) (blocks word r older s v plain empty h))
+passes older area new more_ word at plain here small e = (
+  small,
+  λ r s v empty h.
+      let own = block word older in
+      let parts : new ++ more_ ≡ area ++ (own ++ more_) = ap (λ p. p ++ more_) e ∙ append_assoc area own more_ in
+      ap (λ p. given p at s r) parts
+      ∙ behind area (own ++ more_) at 0 s r (omega (arith, here))
+      ∙ more own more_ 0 s r (both word v) (blocks word r older s v plain empty h),
+)
 
 pub answers : (older area : List Insn) (word c : ℕ) → ArePlain older → list_all (gives word c) older ≡ true → IsTurn older area word (Answers c)
 answers older area word c plain all = λ r v h. one_answer word c r older 0 start v plain all h
