@@ -15,7 +15,8 @@ pub enum Meaning {
     Filter,
     Filters,
     ShownAs,
-    WrittenAs,
+    Recovered,
+    RecoveredToo,
     Certified,
     CertifiedToo,
     Record,
@@ -58,8 +59,11 @@ impl Meaning {
             Meaning::ShownAs => {
                 "what is shown in place of the listing is what the filter costs the calls of the machine\n[possible values: cost]"
             }
-            Meaning::WrittenAs => {
-                "the config.json is written, and not its section\n[possible values: bundle]"
+            Meaning::Recovered => {
+                "the config.json is written, and not its section; or the filter is of runc, which puts its ENOSYS stub in\nfront; or numbers that no table has are left aside, or all calls of x32\n[possible values: bundle, runc, calls, without-x32]"
+            }
+            Meaning::RecoveredToo => {
+                "another of these\n[possible values: bundle, runc, calls, without-x32]"
             }
             Meaning::Certified => {
                 "the filter is of runc, which puts its ENOSYS stub in front; or all calls are reported that differ; or\nnumbers that no table has are left aside, or all calls of x32\n[possible values: runc, all, calls, without-x32]"
@@ -124,7 +128,12 @@ impl Meaning {
             Meaning::Certified | Meaning::CertifiedToo => &["runc", "all", "calls", "without-x32"],
             Meaning::ReadAs => &["rules"],
             Meaning::ShownAs => &["cost"],
-            Meaning::WrittenAs => &["bundle"],
+            Meaning::Recovered | Meaning::RecoveredToo => &[
+                "bundle",
+                "runc",
+                "calls",
+                "without-x32",
+            ],
             Meaning::Compared => &["atmost", "filters"],
             _ => &[],
         }

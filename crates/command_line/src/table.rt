@@ -39,7 +39,13 @@ const FILTERS: Part = ("FILTER", Meaning::Filters);
 
 const SHOWN_AS: Part = ("WORD", Meaning::ShownAs);
 
-const WRITTEN_AS: Part = ("WORD", Meaning::WrittenAs);
+const RECOVERED: Part = ("WORD", Meaning::Recovered);
+
+const RECOVERED_TOO: Part = ("OTHER", Meaning::RecoveredToo);
+
+const RECOVERED_THIRD: Part = ("THIRD", Meaning::RecoveredToo);
+
+const RECOVERED_FOURTH: Part = ("FOURTH", Meaning::RecoveredToo);
 
 const CERTIFIED: Part = ("WORD", Meaning::Certified);
 
@@ -201,8 +207,15 @@ pub const COMMANDS: &[Entry] = &[
     ),
     (
         "recover",
-        (2, 3),
-        &[MACHINE, FILTER, WRITTEN_AS],
+        (2, 6),
+        &[
+            MACHINE,
+            FILTER,
+            RECOVERED,
+            RECOVERED_TOO,
+            RECOVERED_THIRD,
+            RECOVERED_FOURTH,
+        ],
         "the profile that any filter means",
         Command::Recover,
     ),

@@ -2,6 +2,7 @@
 use crate::entries::entries_of;
 use crate::machines::{default_of, machines_of, refuse_others};
 use crate::names::names_of;
+use crate::passed::Passed;
 use crate::text::{bundle_of, is_given};
 use crate::unsaid::Unsaid;
 use call_tables::Arch;
@@ -11,15 +12,16 @@ use std::alloc::Global;
 // How many entries a section has at most.
 const MOST_ENTRIES: usize = 1024;
 
-/// The bundle that seems to say what a filter answers, or what no section says of it.
+/// The bundle that seems to say what a filter answers but of calls that are passed over, or what no section says of it.
 pub(crate) fn drafted(
     alloc: Global,
     native: Arch,
     program: &Accepted<'_>,
+    passed: Passed,
 ) -> Result<String, Unsaid> {
     refuse_others(alloc, program, native.family())?;
-    let machines = machines_of(alloc, program, native)?;
-    let default = match default_of(alloc, program, &machines)? {
+    let machines = machines_of(alloc, program, native, passed)?;
+    let default = match default_of(alloc, program, native, &machines, passed)? {
         Some(shown) => shown,
         None => return Err(Unsaid::TooLarge),
     };

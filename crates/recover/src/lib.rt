@@ -17,6 +17,7 @@ mod machines;
 mod marks;
 mod names;
 mod numbers;
+mod passed;
 mod paths;
 mod pieces;
 mod recovered;
@@ -27,6 +28,7 @@ mod text;
 mod unlike;
 mod unsaid;
 
-pub use recovered::recover;
+pub use passed::Passed;
+pub use recovered::{draft_of, recover};
 pub use telling::line_of;
 pub use unsaid::{Shown, Unsaid};

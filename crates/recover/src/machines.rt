@@ -2,11 +2,12 @@
 use crate::calls::{hear, plain_record, show};
 use crate::cells::Cell;
 use crate::leaves::Called;
-use crate::numbers::{cells_or_all, named_of, number_cells, unnamed_of};
+use crate::numbers::{cells_or_all, named_of, number_cells, unnamed_of, unnamed_within};
+use crate::passed::Passed;
 use crate::survey::{Known, survey_of};
 use crate::unsaid::{Shown, Unsaid};
 use call_record::Word;
-use call_tables::{Arch, Family};
+use call_tables::{Arch, Family, LEAST_X32_NUMBER, Numbers};
 use kernel_check::Accepted;
 use std::alloc::Global;
 
@@ -80,15 +81,43 @@ fn listed_if(
     }))
 }
 
+// The numbers behind all calls of x32 that are x32's own where it is listed.
+const BEHIND_X32: Numbers = Numbers {
+    first: 0x8000_0000,
+    last: u32::MAX - 1,
+};
+
+// x32 without its calls, unless all numbers behind these are killed.
+fn x32_if(alloc: Global, program: &Accepted<'_>) -> Result<Option<Listed>, Unsaid> {
+    let arch = Arch::LinuxX32;
+    let cells = number_cells(alloc, program, arch.token())?;
+    let mut unnamed = Vec::new(alloc);
+    unnamed_within(arch, &cells, BEHIND_X32, &mut unnamed)?;
+    if are_all_killed(alloc, program, arch.token(), &unnamed)? {
+        return Ok(None);
+    }
+    Ok(Some(Listed {
+        arch,
+        named: Vec::new(alloc),
+        unnamed,
+    }))
+}
+
 /// The machines of which the filter does not kill all calls, and the native one.
 pub(crate) fn machines_of(
     alloc: Global,
     program: &Accepted<'_>,
     native: Arch,
+    passed: Passed,
 ) -> Result<Vec<Listed>, Unsaid> {
     let mut found = Vec::new(alloc);
     for arch in native.family().machines() {
-        if let Some(machine) = listed_if(alloc, program, native, *arch)? {
+        let machine = if passed.x32 && *arch == Arch::LinuxX32 {
+            x32_if(alloc, program)?
+        } else {
+            listed_if(alloc, program, native, *arch)?
+        };
+        if let Some(machine) = machine {
             found.push(machine)?;
         }
     }
@@ -171,12 +200,22 @@ fn word_of(
     Err(Unsaid::Conditions(shown))
 }
 
-/// The verdict of all calls without a name, shown by one of them.
+// A number behind all that have a name, on each machine but x32.
+const BEHIND_NAMES: u32 = LEAST_X32_NUMBER - 1;
+
+/// The verdict of all calls without a name, shown by one of them. Where they are passed over, it is one of those behind all names that
+/// shows it: they are too many to be left aside.
 pub(crate) fn default_of(
     alloc: Global,
     program: &Accepted<'_>,
+    native: Arch,
     machines: &[Listed],
+    passed: Passed,
 ) -> Result<Option<Shown>, Unsaid> {
+    if passed.unnamed {
+        let shown = word_of(alloc, program, native, BEHIND_NAMES)?;
+        return Ok(Some(shown));
+    }
     let mut found: Option<Shown> = None;
     for machine in machines {
         for number in &machine.unnamed {

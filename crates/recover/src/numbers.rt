@@ -3,7 +3,7 @@ use crate::asked::Asked;
 use crate::cells::Cell;
 use crate::marks::{cells_of, marks_of};
 use crate::survey::{Known, survey_of};
-use call_tables::Arch;
+use call_tables::{Arch, Numbers};
 use kernel_check::Accepted;
 use std::alloc::{AllocError, Global};
 
@@ -55,6 +55,21 @@ pub(crate) fn cells_or_all(
     }
 }
 
+/// Adds a number without a name from each of these cells that has one among some numbers of a machine.
+pub(crate) fn unnamed_within(
+    arch: Arch,
+    cells: &[Cell],
+    own: Numbers,
+    found: &mut Vec<u32>,
+) -> Result<(), AllocError> {
+    for cell in cells {
+        if let Some(number) = unnamed_in(arch, cell.within(own.first, own.last)) {
+            found.push(number)?;
+        }
+    }
+    Ok(())
+}
+
 /// A number of a machine without a name from each of these cells that has one.
 pub(crate) fn unnamed_of(
     alloc: Global,
@@ -63,11 +78,7 @@ pub(crate) fn unnamed_of(
 ) -> Result<Vec<u32>, AllocError> {
     let mut found = Vec::new(alloc);
     for own in arch.own_numbers() {
-        for cell in cells {
-            if let Some(number) = unnamed_in(arch, cell.within(own.first, own.last)) {
-                found.push(number)?;
-            }
-        }
+        unnamed_within(arch, cells, *own, &mut found)?;
     }
     Ok(found)
 }

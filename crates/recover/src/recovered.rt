@@ -1,10 +1,13 @@
 //! From a filter to the bundle whose meaning is the filter's.
-ghost use Rattle.std.specs.Prelude.{ℕ, List, IfOk, string_bytes};
+ghost use Rattle.std.specs.Prelude.{◌≡◌, ℕ, List, IfOk, None, string_bytes};
+ghost use Rattle.bpf_insn.specs.Bytes.{insns_of, view_fault};
 ghost use Rattle.call_tables.specs.declared.arch.Arch.{Arch as TheArch};
+ghost use Rattle.kernel_check.specs.Accepted.{IsAccepted};
 ghost use Rattle.maker.specs.Certified.{IsEvidenceFor, IsJudgement};
 ghost use Rattle.recover.specs.Recovered.{IsRecovered};
 
 use crate::draft::drafted;
+use crate::passed::Passed;
 use crate::unsaid::Unsaid;
 use bpf_insn::Program;
 use call_tables::Arch;
@@ -12,14 +15,22 @@ use kernel_check::accept;
 use maker::{Evidence, Unready, judge_bundle};
 use std::alloc::Global;
 
-// The bundle that seems to say what the filter of these bytes answers.
-fn draft_of(alloc: Global, native: Arch, filter: &[u8]) -> Result<String, Unsaid> {
+/// The bundle that seems to say what the filter of these bytes answers, but of calls that are passed over. It is not judged here.
+pub fn draft_of(
+    alloc: Global,
+    native: Arch,
+    filter: &[u8],
+    passed: Passed,
+) -> Result<String, Unsaid>
+    ensures program { IfOk result (λ _. view_fault filter.now ≡ None) }
+    ensures accepted { IfOk result (λ _. IsAccepted (insns_of filter.now)) }
+{
     let program = match Program::view(filter) {
         Ok(program) => program,
         Err(fault) => return Err(Unsaid::View(fault)),
     };
     match accept(&program) {
-        Ok(accepted) => drafted(alloc, native, &accepted),
+        Ok(accepted) => drafted(alloc, native, &accepted, passed),
         Err(refused) => Err(Unsaid::Kernel(refused)),
     }
 }
@@ -35,14 +46,6 @@ fn handed_out(evidence: Evidence, bundle: String) -> Result<String, Unsaid>
     }
 }
 
-// Why a bundle is not handed out of which there is no evidence.
-fn undecided(unready: Unready) -> Unsaid {
-    match unready {
-        Unready::OutOfMemory => Unsaid::OutOfMemory,
-        _ => Unsaid::Undecided(unready),
-    }
-}
-
 // The bundle, if it was judged that the filter has a certificate, or why it is not handed out.
 fn handed_out_if_judged(judged: Result<Evidence, Unready>, bundle: String) -> Result<String, Unsaid>
     ensures { (native : TheArch) (filter : List ℕ) → IsJudgement native (string_bytes bundle) filter judged
@@ -50,7 +53,7 @@ fn handed_out_if_judged(judged: Result<Evidence, Unready>, bundle: String) -> Re
 {
     match judged {
         Ok(evidence) => handed_out(evidence, bundle),
-        Err(unready) => Err(undecided(unready)),
+        Err(unready) => Err(Unsaid::from(unready)),
     }
 }
 
@@ -59,7 +62,7 @@ fn handed_out_if_judged(judged: Result<Evidence, Unready>, bundle: String) -> Re
 pub fn recover(alloc: Global, native: Arch, filter: &[u8]) -> Result<String, Unsaid>
     ensures { IfOk result (λ bundle. IsRecovered native (string_bytes bundle) filter.now) }
 {
-    let bundle = draft_of(alloc, native, filter)?;
+    let bundle = draft_of(alloc, native, filter, Passed::NONE)?;
     let judged = judge_bundle(alloc, native, bundle.as_bytes(), filter);
     handed_out_if_judged(judged, bundle)
 }

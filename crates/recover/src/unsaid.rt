@@ -51,6 +51,15 @@ impl From<AllocError> for Unsaid {
     }
 }
 
+impl From<Unready> for Unsaid {
+    fn from(unready: Unready) -> Unsaid {
+        match unready {
+            Unready::OutOfMemory => Unsaid::OutOfMemory,
+            _ => Unsaid::Undecided(unready),
+        }
+    }
+}
+
 impl<T: Drop> From<AllocFailed<T>> for Unsaid {
     fn from(_error: AllocFailed<T>) -> Unsaid {
         Unsaid::OutOfMemory

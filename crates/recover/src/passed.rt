@@ -1,0 +1,16 @@
+//! Which calls a draft passes over.
+
+/// Whether numbers without a name are passed over, and whether the calls of x32 are. What is drafted need not be right of them.
+#[derive(Clone, Copy, Debug)]
+pub struct Passed {
+    pub unnamed: bool,
+    pub x32: bool,
+}
+
+impl Passed {
+    /// No call is.
+    pub(crate) const NONE: Passed = Passed {
+        unnamed: false,
+        x32: false,
+    };
+}

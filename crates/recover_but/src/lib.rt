@@ -1,0 +1,12 @@
+//! What profile does a filter have, but for some calls? Where no section says all that a filter does, calls are left aside and told that
+//! matter to no one: those of x32, numbers that no table has, and those that runc's stub answers.
+//!
+//! A section is drafted that passes these calls over. None of that is trusted: it is judged with the filter, and handed out only if the
+//! filter is right but for the calls that are told.
+#![tactic(auto)]
+
+mod found;
+mod told;
+
+pub use found::{Found, recover_but};
+pub use told::{RecoveredBut, recover_told};
