@@ -20,10 +20,9 @@ use Rattle.cli.specs.declared.stops.Stop.{Stop}
 use Rattle.cli.specs.declared.stops.Stop.TheVariants.{Usage}
 use Rattle.cli.specs.Dispatch.{AnswersAdapt, AnswersAll, AnswersBehind, AnswersCertify, AnswersCheck, AnswersExport, AnswersManual, AnswersReplay}
 use Rattle.cli.specs.Dispatch.{AnswersAllBehind, AnswersCombined, AnswersStack}
-use Rattle.cli.specs.Dispatch.{AnswersRecovered, AnswersTold, AnswersVerdict, ExplainsAllBehind, StopsAtWords}
+use Rattle.cli.specs.Dispatch.{AnswersTold, AnswersVerdict, ExplainsAllBehind, StopsAtWords}
 use Rattle.cli.specs.Adapted.{AskNothing, IsMadeAs}
 use Rattle.cli.specs.Combined.{TellsCombined, TellsStack}
-use Rattle.cli.specs.Recovered.{TellsRecovered}
 use Rattle.cli.specs.Written.{WritesMade}
 use Rattle.cli.specs.Told.{IsManual, IsReplayed, OfArguments, OfEach, of_none, of_one, of_two}
 use Rattle.cli.specs.declared.adapting.Both.{Both}
@@ -320,15 +319,6 @@ module _ {O : Type 0} (held : O → Option (List ℕ)) (failures : O → Failure
     answers_told held failures folder is.filters (λ texts. WritesMade native is.as_bundle (TellsStack native texts)) old new result (told_in both)
         is.is h,
   )
-
-  pub answers_recovered : (native : Arch) (filter : List ℕ) (as_bundle asked : Bool) → as_bundle ≡ asked → (result : Result Bool Stop)
-      (both : Result Both Stop)
-      → IsToldOf folder (filter ∷ []) (of_one (λ text. WritesMade native as_bundle (TellsRecovered native text))) (told_in both)
-      → TellsOn held failures old new (told_in both) result → AnswersRecovered held failures folder old new native asked filter result
-  answers_recovered native filter as_bundle asked same result both is h =
-      subst (λ b. AnswersRecovered held failures folder old new native b filter result) same
-      (answers_told held failures folder (filter ∷ []) (of_one (λ text. WritesMade native as_bundle (TellsRecovered native text))) old new
-      result (told_in both) is h)
 
   pub answers_replayed : (native : Arch) (bundle : List ℕ) (words : List (List ℕ)) (result : Result Bool Stop) (told : Result Told Stop)
       → IsReplayOf folder native bundle words told → TellsOn held failures old new told result

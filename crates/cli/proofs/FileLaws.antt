@@ -30,7 +30,8 @@ use Rattle.maker.specs.declared.evidence.evidence.Conviction.{Conviction}
 use Rattle.compare.specs.Convictions.{AllConvict, Convicts, TellsAll}
 use Rattle.cli.specs.Explained.{TellsAllBehind, TellsBehind, TellsStub, WritesFound, WritesSome}
 use Rattle.cli.specs.Files.{IsEnough}
-use Rattle.cli.specs.Recovered.{TellsRecovered}
+use Rattle.cli.specs.Recovered.{TellsBy, has_word, leave_in}
+use Rattle.recover_but.specs.RecoveredBut.{IsToldBut}
 use Rattle.recover.specs.Recovered.{IsRecovered}
 use Rattle.cli.proofs.EnoughLaws.{all_read, all_read_of, first_of_file, same_fault, whole_filter}
 
@@ -241,10 +242,14 @@ module _ (native : Arch) (bundle filter f : List ℕ) (enough : IsEnough 32768 f
             → TellsAllBehind held failures old new shown dropped err err' native bundle filter result
         tells_all_behind_of_file h = tells_all_by h h.behind
 
--- the bundle that means what a filter does
-pub recovered_of_file : (filter f : List ℕ) (enough : IsEnough 32768 filter f) (native : Arch) (told : Told)
-    → TellsRecovered native f told → TellsRecovered native filter told
-recovered_of_file filter f enough native told h =
+-- the bundle that is made of a filter, as words ask
+pub recovered_of_file : (filter f : List ℕ) (enough : IsEnough 32768 filter f) (native : Arch) (words : List (List ℕ)) (told : Told) (out : Bool)
+    → TellsBy out native words f told → TellsBy out native words filter told
+recovered_of_file filter f enough native words told true h =
+    λ done. let is = h done in
+    subst (λ b. (lines : List ℕ) × IsToldBut native b (has_word (codes "runc") words) (leave_in words) told.bytes.items lines)
+    (whole_filter filter f enough is.1.recovered.accepted.program) is
+recovered_of_file filter f enough native words told false h =
     λ done. let is = h done in subst (λ b. IsRecovered native told.bytes.items b) (whole_filter filter f enough is.program) is
 
 -- what is shown of a filter

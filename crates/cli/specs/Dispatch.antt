@@ -41,7 +41,7 @@ use Rattle.cli.specs.Adapted.{AskNothing, IsMadeAs}
 use Rattle.cli.specs.Read.{TellsLinted, TellsRead, TellsRules}
 use Rattle.cli.specs.Refusal.{is_refusal}
 use Rattle.cli.specs.Remarked.{RemarksBy}
-use Rattle.cli.specs.Recovered.{TellsRecovered}
+use Rattle.cli.specs.Recovered.{TellsAsked, has_word}
 use Rattle.cli.specs.Tuned.{TellsTuned}
 use Rattle.review.specs.Reviewed.{IsReviewed}
 use Rattle.cli.specs.Combined.{TellsCombined, TellsStack}
@@ -338,10 +338,10 @@ module _ {O : Type 0} (held : O → Option (List ℕ)) (failures : O → Failure
       (others : List (List ℕ)) × (as_bundle : Bool) × NamesForm words others as_bundle
       × AnswersFrom native as_bundle (from_in others) others result
 
-  -- the profile that a filter means, in the form that is asked for
-  abbrev pub AnswersRecovered : Arch → Bool → List ℕ → Result Bool Stop → Type 0
-  AnswersRecovered native as_bundle filter result =
-      AnswersTold (filter ∷ []) (of_one (λ text. WritesMade native as_bundle (TellsRecovered native text))) result
+  -- the profile that a filter means, in the form that the words ask for, and for the calls for which they do
+  abbrev pub AnswersRecovered : Arch → List (List ℕ) → List ℕ → Result Bool Stop → Type 0
+  AnswersRecovered native words filter result =
+      AnswersTold (filter ∷ []) (of_one (λ text. WritesMade native (has_word (codes "bundle") words) (TellsAsked native words text))) result
 
   -- the profile that bundles mean together, in the form that the words ask for
   abbrev pub AnswersCombined : Arch → Way → List (List ℕ) → Result Bool Stop → Type 0
@@ -425,8 +425,7 @@ module _ {I O : Type 0} (left : I → Option (List ℕ)) (given : I → Failures
   DoesWith Adapt p result = (input' ≡ input) × AnswersAdapt held taken folder out out' p.native p.two p.from_three result
   DoesWith Learn p result = (input' ≡ input) × AnswersLearn held taken folder out out' p.native p.from_two result
   DoesWith Replay p result = (input' ≡ input) × AnswersReplay held taken folder out out' p.native p.two p.from_three result
-  DoesWith Recover p result =
-      (input' ≡ input) × AnswersRecovered held taken folder out out' p.native (bytes_eq p.three (codes "bundle")) p.two result
+  DoesWith Recover p result = (input' ≡ input) × AnswersRecovered held taken folder out out' p.native p.from_three p.two result
   DoesWith Tune p result = (input' ≡ input) × AnswersTold held taken folder out out' (p.two ∷ p.three ∷ [])
       (of_two (λ text counts. OfBundle p.native (TellsTuned p.native) text)) result
   DoesWith Join p result = (input' ≡ input) × AnswersCombined held taken folder out out' p.native Laxest p.from_two result

@@ -1,6 +1,5 @@
 //! The arguments that stand for the parts of a command, by their places in its row.
-ghost use Rattle.std.specs.Prelude.{◌≡◌, codes, drop, option_map};
-ghost use Rattle.std.specs.Str.{bytes_eq};
+ghost use Rattle.std.specs.Prelude.{◌≡◌, drop, option_map};
 ghost use Rattle.cli.specs.Dispatch as dispatch;
 ghost use Rattle.cli.specs.Parts as spec;
 ghost use Rattle.command_line.specs.Lines.{texts};
@@ -129,11 +128,4 @@ pub(crate) fn asks_but(parts: &Parts<'_>) -> bool
 {
     let leave = leave_of(parts);
     leave.unnamed || leave.x32
-}
-
-/// Whether the bundle is asked for.
-pub(crate) fn asks_bundle(word: &str) -> bool
-    ensures { result ≡ bytes_eq word.now (codes "bundle") }
-{
-    word == "bundle"
 }

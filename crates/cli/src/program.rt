@@ -21,7 +21,7 @@ use crate::flattening::flattened;
 use crate::logs::{learned, replayed};
 use crate::manual::{manual, version};
 use crate::objects::{is_json, write_answer};
-use crate::parts::{Form, Parts, asks_bundle, form_of, parts_of};
+use crate::parts::{Form, Parts, form_of, parts_of};
 use crate::recovering::recovered;
 use crate::remarking::remark_on;
 use crate::run::run_bundles;
@@ -181,7 +181,7 @@ fn obey<'a, F: Files, I: Source, O: Sink, E: Sink>(
         }
         Command::Recover => {
             tell_both(
-                recovered(alloc, native, parts.two, asks_bundle(parts.three), files),
+                recovered(alloc, native, parts.from_three, parts.two, files),
                 out,
                 err,
             )

@@ -6,6 +6,8 @@ use Rattle.command_line.specs.Lines.{texts}
 use Rattle.cli.specs.Dispatch.{any_call, explained_as}
 use Rattle.cli.specs.Told.{OfArguments, OfBundle, of_none, of_one, of_two}
 use Rattle.cli.specs.Flat.{TellsFlat}
+use Rattle.cli.specs.Recovered.{TellsAsked, has_word}
+use Rattle.cli.specs.Written.{WritesMade}
 use Rattle.cli.specs.Tuned.{TellsTuned}
 use Rattle.review.specs.Reviewed.{IsReviewed}
 use Rattle.together.specs.declared.way.Way.TheVariants.{Laxest, Strictest}
@@ -13,7 +15,7 @@ use Rattle.cli.specs.inner.Telling.{told_in}
 use Rattle.cli.specs.Read.{TellsLinted}
 use Rattle.cli.specs.Parts.{read}
 use Rattle.cli.proofs.AuditLaws.{answers_audited}
-use Rattle.cli.proofs.DispatchLaws.{answers_adapted, answers_combined, answers_manual, answers_stack, answers_recovered, answers_replayed, answers_told}
+use Rattle.cli.proofs.DispatchLaws.{answers_adapted, answers_combined, answers_manual, answers_stack, answers_replayed, answers_told}
 use Rattle.cli.proofs.LogLaws.{answers_learned}
 use Rattle.cli.proofs.program.obey.Goals as goal
 
@@ -80,9 +82,10 @@ returns-in-Version-clause-does g c = rw c.in-Version.is (
 pub returns-in-Recover-clause-does : goal.returns-in-Recover-clause-does
 returns-in-Recover-clause-does g c = rw c.in-Recover.is (
   refl,
-  answers_recovered g.O.Sink.held g.O.Sink.failures (g.F.Files.folder c.args.files.now) c.args.out.now c.tell_both-in-Recover.new.out
-      c.args.parts.native c.args.parts.two.now c.asks_bundle.result (bytes_eq c.args.parts.three.now (codes "bundle")) c.asks_bundle.ensures
-      c.tell_both-in-Recover.result c.recovered.result c.recovered.ensures c.tell_both-in-Recover.ensures.told,
+  answers_told g.O.Sink.held g.O.Sink.failures (g.F.Files.folder c.args.files.now) (c.args.parts.two.now ∷ [])
+      (of_one (λ text. WritesMade c.args.parts.native (has_word (codes "bundle") (texts c.args.parts.from_three.now))
+      (TellsAsked c.args.parts.native (texts c.args.parts.from_three.now) text))) c.args.out.now c.tell_both-in-Recover.new.out
+      c.tell_both-in-Recover.result (told_in c.recovered.result) c.recovered.ensures c.tell_both-in-Recover.ensures.told,
 )
 
 pub returns-in-Tune-clause-does : goal.returns-in-Tune-clause-does
