@@ -8,7 +8,8 @@ use denote.Ref.{Bor}
 use Rattle.command_line.specs.declared.prose.Command.{Command}
 use Rattle.command_line.specs.declared.prose.Command.TheVariants.{Verdict, Check, Certify, Export, Run, Explain, Record, Assemble}
 use Rattle.command_line.specs.declared.prose.Command.TheVariants.{Read, Annotate, Draw, Lint, Compare, Adapt, Learn}
-use Rattle.command_line.specs.declared.prose.Command.TheVariants.{Replay, Recover, Tune, Join, Meet, Stack, Flatten, Review, Json, Manual, Version}
+use Rattle.command_line.specs.declared.prose.Command.TheVariants.{Replay, Recover, Tune, Join, Meet, Stack, Flatten, Review}
+use Rattle.command_line.specs.declared.prose.Command.TheVariants.{Json, Manual, Version}
 use Rattle.aside.specs.declared.leave.Leave.{Leave}
 use Rattle.aside.specs.Told.{CertifiesBut}
 use Rattle.cli.specs.Parts.{Parts, form_of, part, parts_of}
