@@ -10,7 +10,12 @@ use std::fmt::Write;
 
 // Whether logs show a call of a machine.
 fn is_shown(calls: &Calls, arch: Arch) -> bool {
-    calls.seen.iter().any(|call| call.arch == arch)
+    for call in &calls.seen {
+        if call.arch == arch {
+            return true;
+        }
+    }
+    false
 }
 
 // Whether a machine is one of these.
@@ -23,6 +28,21 @@ fn is_among(machines: &[Arch], arch: Arch) -> bool {
     false
 }
 
+// Adds the machines of a bundle.
+fn put_machines_of(
+    machines: &mut Vec<Arch>,
+    native: Arch,
+    calls: &Calls,
+    more: &[Arch],
+) -> Result<(), AllocError> {
+    for arch in machines_run(native) {
+        if *arch == native || is_shown(calls, *arch) || is_among(more, *arch) {
+            machines.push(*arch)?;
+        }
+    }
+    Ok(())
+}
+
 /// The machines of a bundle: the native one, those whose calls logs show, and these.
 pub(crate) fn machines_of(
     alloc: Global,
@@ -31,19 +51,23 @@ pub(crate) fn machines_of(
     more: &[Arch],
 ) -> Result<Vec<Arch>, AllocError> {
     let mut machines = Vec::new(alloc);
-    for arch in machines_run(native) {
-        if *arch == native || is_shown(calls, *arch) || is_among(more, *arch) {
-            machines.push(*arch)?;
-        }
-    }
+    put_machines_of(&mut machines, native, calls, more)?;
     Ok(machines)
+}
+
+// Adds a text in quotes, behind what stands before it.
+fn put_text(text: &mut String, before: &str, item: &str) -> Result<(), AllocError> {
+    text.push_str(before)?;
+    text.push_str("\"")?;
+    text.push_str(item)?;
+    text.push_str("\"")
 }
 
 // Adds texts in quotes, with commas between them.
 fn put_texts(text: &mut String, texts: &[&'static str]) -> Result<(), AllocError> {
     let mut before = "";
     for item in texts {
-        write!(text, "{before}\"{item}\"")?;
+        put_text(text, before, item)?;
         before = ", ";
     }
     Ok(())
@@ -53,8 +77,7 @@ fn put_texts(text: &mut String, texts: &[&'static str]) -> Result<(), AllocError
 fn put_machines(text: &mut String, machines: &[Arch]) -> Result<(), AllocError> {
     let mut before = "";
     for arch in machines {
-        let name = arch.scmp();
-        write!(text, "{before}\"{name}\"")?;
+        put_text(text, before, arch.scmp())?;
         before = ", ";
     }
     Ok(())
@@ -93,11 +116,9 @@ fn put_kept(text: &mut String, keeps: &[Keep<'_>], kept: &Kept) -> Result<(), Al
     let Some(keep) = keeps.get(kept.keep) else {
         return Ok(());
     };
-    let name = keep.name;
-    write!(
-        text,
-        ",\n        {{\"names\": [\"{name}\"], \"action\": \"SCMP_ACT_ALLOW\", \"args\": ["
-    )?;
+    text.push_str(",\n        {\"names\": [\"")?;
+    text.push_str(keep.name)?;
+    text.push_str("\"], \"action\": \"SCMP_ACT_ALLOW\", \"args\": [")?;
     put_conditions(text, kept)?;
     text.push_str("]}")
 }
@@ -128,6 +149,24 @@ fn put_entries(
     put_missing(text, names)
 }
 
+// Adds a bundle.
+fn put_bundle(
+    text: &mut String,
+    machines: &[Arch],
+    keeps: &[Keep<'_>],
+    calls: &Calls,
+    names: &Names,
+    otherwise: Otherwise,
+) -> Result<(), AllocError> {
+    text.push_str("{\n  \"ociVersion\": \"1.0.2\",\n  \"linux\": {\n    \"seccomp\": {\n      ")?;
+    text.push_str(otherwise.members())?;
+    text.push_str(",\n      \"architectures\": [")?;
+    put_machines(text, machines)?;
+    text.push_str("],\n      \"syscalls\": [\n")?;
+    put_entries(text, keeps, calls, names)?;
+    text.push_str("\n      ]\n    }\n  }\n}\n")
+}
+
 /// The text of a bundle for these machines that allows these names and these calls.
 pub(crate) fn bundle_of(
     alloc: Global,
@@ -138,15 +177,6 @@ pub(crate) fn bundle_of(
     otherwise: Otherwise,
 ) -> Result<String, AllocError> {
     let mut text = String::new(alloc);
-    let default = otherwise.members();
-    write!(
-        text,
-        "{{\n  \"ociVersion\": \"1.0.2\",\n  \"linux\": {{\n    \"seccomp\": {{\n      {default},\n"
-    )?;
-    text.push_str("      \"architectures\": [")?;
-    put_machines(&mut text, machines)?;
-    text.push_str("],\n      \"syscalls\": [\n")?;
-    put_entries(&mut text, keeps, calls, names)?;
-    text.push_str("\n      ]\n    }\n  }\n}\n")?;
+    put_bundle(&mut text, machines, keeps, calls, names, otherwise)?;
     Ok(text)
 }

@@ -24,7 +24,12 @@ pub(crate) struct Seen {
 impl Seen {
     /// Whether they are allowed whatever their arguments.
     pub(crate) fn is_whole(&self) -> bool {
-        self.bits.iter().all(|bits| *bits == 0)
+        for bits in &self.bits {
+            if *bits != 0 {
+                return false;
+            }
+        }
+        true
     }
 
     /// One of them as a filter sees it, made at address 0.
@@ -67,22 +72,22 @@ fn note_values(kept: &mut Vec<Kept>, values: Kept) -> Result<bool, AllocError> {
     Ok(true)
 }
 
-// What is to be gathered of a call, and its values where they are kept.
-fn seen_of(keeps: &[Keep<'_>], call: &Call<'_>, kept: &mut Vec<Kept>) -> Result<Seen, AllocError> {
-    let Some(at) = keep_of(keeps, call) else {
-        return Ok(whole_of(call));
-    };
-    let Some(keep) = keeps.get(at) else {
-        return Ok(whole_of(call));
-    };
-    let bits = bits_of(keep, call.arch, call.nr);
-    let Some(values) = values_of(&bits, call) else {
-        return Ok(whole_of(call));
-    };
-    let new = Kept {
+// The values of a call that are to be kept, if the call has all of them.
+fn kept_of(keeps: &[Keep<'_>], call: &Call<'_>) -> Option<Kept> {
+    let at = keep_of(keeps, call)?;
+    let bits = bits_of(keeps.get(at)?, call.arch, call.nr);
+    let values = values_of(&bits, call)?;
+    Some(Kept {
         keep: at,
         bits,
         values,
+    })
+}
+
+// What is to be gathered of a call, and its values where they are kept.
+fn seen_of(keeps: &[Keep<'_>], call: &Call<'_>, kept: &mut Vec<Kept>) -> Result<Seen, AllocError> {
+    let Some(new) = kept_of(keeps, call) else {
+        return Ok(whole_of(call));
     };
     if !note_values(kept, new)? {
         return Ok(whole_of(call));
@@ -90,8 +95,8 @@ fn seen_of(keeps: &[Keep<'_>], call: &Call<'_>, kept: &mut Vec<Kept>) -> Result<
     Ok(Seen {
         arch: call.arch,
         nr: call.nr,
-        bits,
-        values,
+        bits: new.bits,
+        values: new.values,
     })
 }
 

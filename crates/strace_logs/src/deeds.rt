@@ -1,4 +1,5 @@
 //! What logs show of files and processes, and what a longer run may do besides.
+use crate::lists::is_in;
 use crate::strace::Call;
 use std::alloc::AllocError;
 
@@ -20,10 +21,6 @@ const CREATING: u64 = 0o100;
 
 // clone(2): the flag by which a thread is made.
 const THREAD: u64 = 0x0001_0000;
-
-fn is_one_of(names: &[&str], name: &str) -> bool {
-    names.iter().any(|other| *other == name)
-}
 
 // Whether a call opens a file that may be written then. What stands in memory, as the flags of openat2, is not seen.
 fn opens_to_write(name: &str, args: &[u64; 6]) -> bool {
@@ -62,6 +59,11 @@ const RENAMES: &[&str] = &["rename", "renameat", "renameat2"];
 
 const UNLINKS: &[&str] = &["unlink", "unlinkat"];
 
+// Whether a call was shown that is one of these, or this one is.
+fn is_shown(was_shown: bool, list: &[&'static str], name: &str) -> bool {
+    was_shown || is_in(list, name)
+}
+
 impl Deeds {
     /// Those of no record.
     pub(crate) fn none() -> Deeds {
@@ -80,10 +82,10 @@ impl Deeds {
         let name = call.arch.name(call.nr).unwrap_or("");
         Deeds {
             writes: self.writes || opens_to_write(name, &call.args),
-            syncs: self.syncs || is_one_of(SYNCS, name),
-            truncates: self.truncates || is_one_of(TRUNCATES, name),
-            renames: self.renames || is_one_of(RENAMES, name),
-            unlinks: self.unlinks || is_one_of(UNLINKS, name),
+            syncs: is_shown(self.syncs, SYNCS, name),
+            truncates: is_shown(self.truncates, TRUNCATES, name),
+            renames: is_shown(self.renames, RENAMES, name),
+            unlinks: is_shown(self.unlinks, UNLINKS, name),
             forks: self.forks.saturating_add(forks(name, &call.args)),
         }
     }

@@ -16,13 +16,8 @@ pub struct Keep<'a> {
 
 // The place that a digit names.
 fn place_of(digit: &str) -> Option<usize> {
-    match digit {
-        "0" => Some(0),
-        "1" => Some(1),
-        "2" => Some(2),
-        "3" => Some(3),
-        "4" => Some(4),
-        "5" => Some(5),
+    match digit.as_bytes() {
+        [byte @ b'0'..=b'5'] => Some(usize::from(*byte - b'0')),
         _ => None,
     }
 }
@@ -39,18 +34,21 @@ fn places_of(digits: &str) -> Option<[bool; 6]> {
     Some(places)
 }
 
-// Whether one of the machines of a kernel has a call of the name.
-fn is_known(native: Arch, name: &str) -> bool {
-    machines_run(native)
-        .iter()
-        .any(|arch| arch.number(name).is_some())
+/// Whether one of the machines has a call of the name.
+pub(crate) fn is_known(machines: &[Arch], name: &str) -> bool {
+    for arch in machines {
+        if arch.number(name).is_some() {
+            return true;
+        }
+    }
+    false
 }
 
 impl<'a> Keep<'a> {
     /// What a word asks for: the name of a call, a colon, and places of arguments, counted from 0, with commas between them.
     pub fn read(native: Arch, word: &'a str) -> Option<Keep<'a>> {
         let (name, digits) = word.split_once(':')?;
-        if !is_known(native, name) {
+        if !is_known(machines_run(native), name) {
             return None;
         }
         let places = places_of(digits)?;
@@ -61,12 +59,22 @@ impl<'a> Keep<'a> {
 /// Which of those that are asked for a call is by its name.
 pub(crate) fn keep_of(keeps: &[Keep<'_>], call: &Call<'_>) -> Option<usize> {
     let name = call.arch.name(call.nr)?;
-    keeps.iter().position(|keep| keep.name == name)
+    for (place, keep) in keeps.iter().enumerate() {
+        if keep.name == name {
+            return Some(place);
+        }
+    }
+    None
 }
 
 /// Whether a name is that of a call of which values are kept.
 pub(crate) fn is_kept(keeps: &[Keep<'_>], name: &str) -> bool {
-    keeps.iter().any(|keep| keep.name == name)
+    for keep in keeps {
+        if keep.name == name {
+            return true;
+        }
+    }
+    false
 }
 
 /// An argument of which all bits are kept.

@@ -95,6 +95,32 @@ fn no_record(alloc: Global, name: &str) -> Result<Told, AllocError>
     refused(alloc, "log", name, why)
 }
 
+// The text of the bundle of calls for machines; and adds what is told of it.
+fn text_on(
+    alloc: Global,
+    machines: &[Arch],
+    calls: &Calls,
+    wish: &Wish<'_>,
+    lines: &mut String,
+) -> Result<String, AllocError> {
+    let keeps = &wish.keeps;
+    let names = names_of(alloc, machines, keeps, calls, wish.runtime, wish.otherwise)?;
+    put_learned(lines, machines, keeps, calls, &names, wish.runtime)?;
+    bundle_of(alloc, machines, keeps, calls, &names, wish.otherwise)
+}
+
+// The same for the machines of the calls and those that are asked for.
+fn text_for(
+    alloc: Global,
+    native: Arch,
+    calls: &Calls,
+    wish: &Wish<'_>,
+    lines: &mut String,
+) -> Result<String, AllocError> {
+    let machines = machines_of(alloc, native, calls, &wish.machines)?;
+    text_on(alloc, &machines, calls, wish, lines)
+}
+
 // The bundle of the calls that logs show, of which not too many values are kept, and what is told of it.
 fn learn_calls(
     alloc: Global,
@@ -109,13 +135,15 @@ fn learn_calls(
     if calls.kept.len() >= MOST_KEPT {
         return refused_profile(alloc, ProfileError::TooMany);
     }
-    let machines = machines_of(alloc, native, calls, &wish.machines)?;
-    let runtime = wish.runtime;
-    let otherwise = wish.otherwise;
-    let names = names_of(alloc, &machines, &wish.keeps, calls, runtime, otherwise)?;
-    put_learned(lines, &machines, &wish.keeps, calls, &names, runtime)?;
-    let text = bundle_of(alloc, &machines, &wish.keeps, calls, &names, otherwise)?;
-    judged(alloc, native, &calls.seen, runtime, otherwise, text)
+    let text = text_for(alloc, native, calls, wish, lines)?;
+    judged(
+        alloc,
+        native,
+        &calls.seen,
+        wish.runtime,
+        wish.otherwise,
+        text,
+    )
 }
 
 // The same, unless a log has no record.

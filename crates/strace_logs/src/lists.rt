@@ -206,23 +206,18 @@ impl Runtime {
 pub(crate) fn of_runtime(runtime: Option<Runtime>) -> &'static [&'static str] {
     match runtime {
         None => &[],
-        Some(Runtime::Crun) => OF_CRUN,
-        Some(Runtime::Runc) => OF_RUNC,
+        Some(Runtime::Crun | Runtime::Podman) => OF_CRUN,
+        Some(Runtime::Runc | Runtime::Docker) => OF_RUNC,
         Some(Runtime::Bubblewrap) => OF_BUBBLEWRAP,
-        Some(Runtime::Docker) => OF_RUNC,
-        Some(Runtime::Podman) => OF_CRUN,
     }
 }
 
 /// What the process 1 calls that an engine may put before the program.
 pub(crate) fn of_first(runtime: Option<Runtime>) -> &'static [&'static str] {
     match runtime {
-        None => &[],
-        Some(Runtime::Crun) => &[],
-        Some(Runtime::Runc) => &[],
-        Some(Runtime::Bubblewrap) => &[],
         Some(Runtime::Docker) => OF_TINI,
         Some(Runtime::Podman) => OF_CATATONIT,
+        _ => &[],
     }
 }
 
@@ -230,7 +225,12 @@ pub(crate) fn of_first(runtime: Option<Runtime>) -> &'static [&'static str] {
 pub(crate) fn is_in(list: &[&'static str], name: &str) -> bool
     ensures { result ≡ list_any (λ other. bytes_eq other.now name.now) list.now }
 {
-    list.iter().any(|other| *other == name)
+    for other in list {
+        if *other == name {
+            return true;
+        }
+    }
+    false
 }
 
 // Each of the next names one list.

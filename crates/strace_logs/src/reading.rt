@@ -13,7 +13,7 @@ use std::alloc::{AllocError, Global};
 use texts::Source;
 
 /// Why a log was not read.
-#[derive(Clone, Copy, Debug, PartialEq, Eq)]
+#[derive(Clone, Copy)]
 pub enum LogFault {
     /// Its source failed.
     CannotRead,

@@ -4,7 +4,7 @@ ghost use Rattle.strace_logs.specs.Wish as spec;
 ghost use Rattle.strace_logs.specs.Wish.{AskFor};
 ghost use Rattle.strace_logs.specs.inner.Wished.{Asks, AsksTo, IsMark};
 
-use crate::keeps::Keep;
+use crate::keeps::{Keep, is_kept};
 use crate::lists::{Otherwise, Runtime};
 use call_tables::Arch;
 use std::alloc::{AllocError, Global};
@@ -28,7 +28,7 @@ fn put_keep<'a>(native: Arch, wish: &mut Wish<'a>, word: &'a str) -> Result<bool
     let Some(keep) = Keep::read(native, word) else {
         return Ok(false);
     };
-    if wish.keeps.iter().any(|other| other.name == keep.name) {
+    if is_kept(&wish.keeps, keep.name) {
         return Ok(false);
     }
     wish.keeps.push(keep)?;

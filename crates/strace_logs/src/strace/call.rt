@@ -8,7 +8,7 @@ use call_record::Record;
 use call_tables::Arch;
 
 /// A call that a line of a log tells.
-#[derive(Clone, Copy, Debug, PartialEq, Eq)]
+#[derive(Clone, Copy)]
 pub struct Call<'a> {
     /// The machine whose call it is.
     pub arch: Arch,

@@ -59,10 +59,20 @@ pub fn call_in(native: Arch, line: &[u8]) -> Option<Call<'_>>
 // What strace writes behind the number of a line that tells no call: its end, a signal, an exit.
 const REMARKS: &[&str] = &[" <... ", " --- ", " +++ "];
 
+// Whether a text begins as one of these.
+fn begins_as_remark(text: &str) -> bool {
+    for mark in REMARKS {
+        if text.starts_with(*mark) {
+            return true;
+        }
+    }
+    false
+}
+
 /// Whether a line tells no call, but the end of one, a signal or an exit; or is empty.
 pub fn is_remark(line: &str) -> bool {
     match split(line, ']') {
-        Some((_, text)) => REMARKS.iter().any(|mark| text.starts_with(*mark)),
+        Some((_, text)) => begins_as_remark(text),
         None => line.is_empty(),
     }
 }
