@@ -34,22 +34,44 @@ fn put_machine(
     text.put(format_args!("{machine}"));
 }
 
-// Adds the list of machines that are known. Where none is, though some are listed, no bundle can be made: an empty list would
-// be the native machine alone.
+// Whether the native machine is one of a list.
+fn is_listed(native: Arch, machines: &[Value]) -> bool {
+    let name = native.scmp();
+    machines
+        .iter()
+        .any(|machine| machine.as_str() == Some(name))
+}
+
+// Adds the native machine to a list of others: engines have it in each filter.
+fn put_native(text: &mut Text, changes: &mut Changes, place: Place<'_>, native: Arch) {
+    let name = native.scmp();
+    let what = "is the native machine, and added: engines have it in each filter";
+    changes.tell_text(place, name, what, false);
+    text.separate(", ");
+    text.put(format_args!("\"{name}\""));
+}
+
+// Adds the list of machines that are known, and the native one to others. Where none of a list is known, no bundle can be made:
+// engines take such machines only if their numbers have the native one's order of bytes, of which nothing is known here.
 fn put_list(
     text: &mut Text,
     changes: &mut Changes,
-    family: Family,
+    native: Arch,
     place: Place<'_>,
     machines: &[Value],
     widens: bool,
 ) {
     text.begin("[");
     for (at, machine) in machines.iter().enumerate() {
-        put_machine(text, changes, family, place.member(at), machine, widens);
+        let place = place.member(at);
+        put_machine(text, changes, native.family(), place, machine, widens);
     }
-    if text.has_begun() && !machines.is_empty() {
-        changes.refuse(place, "no machine is listed that ccell knows");
+    if !machines.is_empty() {
+        if text.has_begun() {
+            changes.refuse(place, "no machine is listed that ccell knows");
+        } else if !is_listed(native, machines) {
+            put_native(text, changes, place, native);
+        }
     }
     text.end("]");
 }
@@ -58,7 +80,7 @@ fn put_list(
 fn put_listed(
     text: &mut Text,
     changes: &mut Changes,
-    family: Family,
+    native: Arch,
     place: Place<'_>,
     section: &Value,
 ) {
@@ -72,7 +94,7 @@ fn put_listed(
     };
     let place = place.key("architectures");
     let widens = says_kill_process(section);
-    put_list(text, changes, family, place, machines.as_slice(), widens);
+    put_list(text, changes, native, place, machines.as_slice(), widens);
 }
 
 // The place of the row for a machine.
@@ -158,5 +180,5 @@ pub(crate) fn put_machines(
     if settings.container().is_some() && says_something(section, "archMap") {
         return put_mapped(text, changes, settings, place, section);
     }
-    put_listed(text, changes, settings.family(), place, section);
+    put_listed(text, changes, settings.native, place, section);
 }

@@ -58,7 +58,7 @@ pub(crate) fn put_sides(
         return;
     };
     for side in sides {
-        let place = Place::top(top).entry(bundle.place_of(side));
+        let place = bundle.part_of(side).place(top);
         put_side(&mut changes.lines, &all, side, place, name);
     }
 }
