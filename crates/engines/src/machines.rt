@@ -34,12 +34,16 @@ fn put_machine(
     text.put(format_args!("{machine}"));
 }
 
-// Whether the native machine is one of a list.
-fn is_listed(native: Arch, machines: &[Value]) -> bool {
+// Whether a list has machines, and the native one is none of them. What is no text is refused as such.
+fn lacks_native(native: Arch, machines: &[Value]) -> bool {
     let name = native.scmp();
-    machines
-        .iter()
-        .any(|machine| machine.as_str() == Some(name))
+    for machine in machines {
+        match machine.as_str() {
+            Some(other) if other != name => {}
+            _ => return false,
+        }
+    }
+    !machines.is_empty()
 }
 
 // Adds the native machine to a list of others: engines have it in each filter.
@@ -51,8 +55,8 @@ fn put_native(text: &mut Text, changes: &mut Changes, place: Place<'_>, native: 
     text.put(format_args!("\"{name}\""));
 }
 
-// Adds the list of machines that are known, and the native one to others. Where none of a list is known, no bundle can be made:
-// engines take such machines only if their numbers have the native one's order of bytes, of which nothing is known here.
+// Adds the list of machines that are known, and the native one to others. Where none is known, though some are listed, no bundle is
+// made: engines refuse machines whose order of bytes is another.
 fn put_list(
     text: &mut Text,
     changes: &mut Changes,
@@ -61,17 +65,15 @@ fn put_list(
     machines: &[Value],
     widens: bool,
 ) {
+    let family = native.family();
     text.begin("[");
     for (at, machine) in machines.iter().enumerate() {
-        let place = place.member(at);
-        put_machine(text, changes, native.family(), place, machine, widens);
+        put_machine(text, changes, family, place.member(at), machine, widens);
     }
-    if !machines.is_empty() {
-        if text.has_begun() {
-            changes.refuse(place, "no machine is listed that ccell knows");
-        } else if !is_listed(native, machines) {
-            put_native(text, changes, place, native);
-        }
+    if text.has_begun() && !machines.is_empty() {
+        changes.refuse(place, "no machine is listed that ccell knows");
+    } else if lacks_native(native, machines) {
+        put_native(text, changes, place, native);
     }
     text.end("]");
 }
