@@ -2,6 +2,7 @@
 use crate::bundle::Bundle;
 use crate::changes::Changes;
 use crate::parts::Part;
+use crate::place::put_place;
 use profile::Rule;
 use profile_json::EntryRules;
 use std::alloc::{AllocError, Global};
@@ -57,13 +58,13 @@ fn tell_giving_way(
     (rule, part): (&Rule, Part),
     (other, stays): (&Rule, Part),
 ) {
-    let here = part.place(top);
-    let there = stays.place(top);
     let action = ActionText(rule.word);
     let kept = ActionText(other.word);
-    changes.lines.put(format_args!(
-        "{here}: {name} gets {action}, and gives way to {there}, where it gets {kept}\n"
-    ));
+    let lines = &mut changes.lines;
+    put_place(lines, part.place(top));
+    lines.put(format_args!(": {name} gets {action}, and gives way to "));
+    put_place(lines, stays.place(top));
+    lines.put(format_args!(", where it gets {kept}\n"));
 }
 
 /// The names whose rules give way to those at other places, which is told.

@@ -2,7 +2,7 @@
 use crate::changes::Changes;
 use crate::kernels::{Kernel, kernel_of};
 use crate::keys::{FILTER, is_void, tell_unknown};
-use crate::place::Place;
+use crate::place::{Place, put_place};
 use crate::settings::Settings;
 use crate::words::Container;
 use call_tables::Arch;
@@ -77,9 +77,17 @@ fn is_for_other_kernels(container: Container, entry: &Value) -> bool {
 
 // Tells that an entry does not count, and why.
 fn tell_not_counting(changes: &mut Changes, place: Place<'_>, joined: &str, what: &str) {
+    put_place(&mut changes.lines, place);
     changes
         .lines
-        .put(format_args!("{place}: does not count {joined} {what}\n"));
+        .put(format_args!(": does not count {joined} {what}\n"));
+}
+
+// Tells that an entry does not count on a kernel.
+fn tell_other_kernel(changes: &mut Changes, place: Place<'_>, kernel: Kernel) {
+    let Kernel { major, minor } = kernel;
+    put_place(&mut changes.lines, place);
+    changes.lines.put(format_args!(": does not count on Linux {major}.{minor}\n"));
 }
 
 // Whether an entry counts for a container, which is told if it does not.
@@ -103,10 +111,7 @@ fn counts_for(
         return false;
     }
     if is_for_other_kernels(container, entry) {
-        let kernel = container.kernel;
-        changes
-            .lines
-            .put(format_args!("{place}: does not count on {kernel}\n"));
+        tell_other_kernel(changes, place, container.kernel);
         return false;
     }
     true

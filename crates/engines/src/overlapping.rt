@@ -1,7 +1,7 @@
 //! Two entries that give unlike verdicts to one call.
 use crate::bundle::Bundle;
 use crate::changes::Changes;
-use crate::place::Place;
+use crate::place::{Place, put_place};
 use crate::text::Text;
 use call_tables::Arch;
 use profile::{Cond, Rule};
@@ -39,7 +39,8 @@ fn put_conditions(text: &mut Text, conds: &[Cond]) {
 fn put_side(text: &mut Text, all: &EntryRules, entry: usize, place: Place<'_>, name: &str) {
     if let Some(rule) = rule_of(all, entry, name) {
         let action = ActionText(rule.word);
-        text.put(format_args!("{place}: {name} gets {action}"));
+        put_place(text, place);
+        text.put(format_args!(": {name} gets {action}"));
         put_conditions(text, rule.conds.as_slice());
         text.put("\n");
     }
