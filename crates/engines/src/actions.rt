@@ -49,13 +49,23 @@ fn may_kill_process(entry: &Value) -> bool {
     text_at(entry, "action") == KILL_PROCESS
 }
 
+// Whether that is so of one of several entries.
+fn one_may_kill_process(entries: &[Value]) -> bool {
+    for entry in entries {
+        if may_kill_process(entry) {
+            return true;
+        }
+    }
+    false
+}
+
 /// Whether a section says KILL_PROCESS somewhere, which is stricter than what calls of unlisted machines get.
 pub(crate) fn says_kill_process(section: &Value) -> bool {
     if text_at(section, "defaultAction") == KILL_PROCESS {
         return true;
     }
     match section.get("syscalls").and_then(Value::as_array) {
-        Some(entries) => entries.iter().any(|entry| may_kill_process(entry)),
+        Some(entries) => one_may_kill_process(entries.as_slice()),
         None => false,
     }
 }

@@ -3,7 +3,7 @@ use crate::actions::text_at;
 use crate::changes::Changes;
 use crate::config::{Section, put_edition, tell_section_keys};
 use crate::entries::put_entries;
-use crate::keys::put_member;
+use crate::keys::{is_one_of, put_member};
 use crate::machines::put_machines;
 use crate::parts::Part;
 use crate::place::Place;
@@ -46,9 +46,9 @@ const HARMLESS_FLAGS: &[&str] = &[
     "SECCOMP_FILTER_FLAG_WAIT_KILLABLE_RECV",
 ];
 
-fn is_one_of(flags: &'static [&'static str], flag: &Value) -> bool {
-    let name = flag.as_str().unwrap_or("");
-    flags.iter().any(|other| *other == name)
+// Whether a flag is one of these.
+fn is_flag_of(flags: &'static [&'static str], flag: &Value) -> bool {
+    is_one_of(flags, flag.as_str().unwrap_or(""))
 }
 
 // Whether what stands in a section beside its profile is read for a family.
@@ -71,7 +71,7 @@ fn flags_of(family: Family) -> &'static [&'static str] {
 fn tell_flag(changes: &mut Changes, place: Place<'_>, flag: &Value) {
     let name = flag.as_str().unwrap_or("");
     let what = "is not read, and left out";
-    changes.tell_text(place, name, what, !is_one_of(HARMLESS_FLAGS, flag));
+    changes.tell_text(place, name, what, !is_flag_of(HARMLESS_FLAGS, flag));
 }
 
 // Adds the flags that are read, and tells the others.
@@ -84,7 +84,7 @@ fn put_each_flag(
 ) {
     let mut has_begun = false;
     for (at, flag) in flags.iter().enumerate() {
-        if !is_one_of(read, flag) {
+        if !is_flag_of(read, flag) {
             tell_flag(changes, place.member(at), flag);
         } else {
             if !has_begun {

@@ -1,6 +1,7 @@
 //! The names of entries that give way to other entries.
 use crate::bundle::Bundle;
 use crate::changes::Changes;
+use crate::keys::is_one_of;
 use crate::parts::Part;
 use crate::place::put_place;
 use profile::Rule;
@@ -25,7 +26,7 @@ impl Dropped {
     /// Whether a name of a written entry gives way.
     pub(crate) fn contains(&self, part: Part, name: &str) -> bool {
         match self.names.get(&part.key()) {
-            Some(names) => names.iter().any(|other| *other == name),
+            Some(names) => is_one_of(names.as_slice(), name),
             None => false,
         }
     }

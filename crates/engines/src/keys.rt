@@ -86,17 +86,24 @@ pub(crate) const READ: &[&str] = &[
     "subArchitectures",
 ];
 
-fn is_one_of(keys: &[&str], key: &str) -> bool {
-    keys.iter().any(|other| *other == key)
+/// Whether a name is one of these.
+pub(crate) fn is_one_of(names: &[&str], name: &str) -> bool {
+    for other in names {
+        if *other == name {
+            return true;
+        }
+    }
+    false
 }
 
 // The key as which engines read another one.
 fn meant_by(key: &str) -> Option<&'static str> {
-    let meant = READ
-        .iter()
-        .copied()
-        .find(|other| other.eq_ignore_ascii_case(key))?;
-    if meant == key { None } else { Some(meant) }
+    for meant in READ {
+        if meant.eq_ignore_ascii_case(key) {
+            return if *meant == key { None } else { Some(*meant) };
+        }
+    }
+    None
 }
 
 /// Whether a member is as good as missing to engines.

@@ -11,8 +11,10 @@ use serde_json::Value;
 // The name of a machine that is not known.
 fn unknown_machine(family: Family, machine: &Value) -> Option<&str> {
     let name = machine.as_str()?;
-    if family.machines().iter().any(|arch| arch.scmp() == name) {
-        return None;
+    for arch in family.machines() {
+        if arch.scmp() == name {
+            return None;
+        }
     }
     Some(name)
 }
@@ -101,8 +103,12 @@ fn put_listed(
 
 // The place of the row for a machine.
 fn row_for(native: Arch, rows: &[Value]) -> Option<usize> {
-    rows.iter()
-        .position(|row| text_at(row, "architecture") == native.scmp())
+    for (at, row) in rows.iter().enumerate() {
+        if text_at(row, "architecture") == native.scmp() {
+            return Some(at);
+        }
+    }
+    None
 }
 
 // The machines that stand in a row besides.

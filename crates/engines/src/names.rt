@@ -11,10 +11,12 @@ use serde_json::Value;
 
 // Whether a name stands in the table of no machine of the family.
 fn is_unknown(family: Family, name: &str) -> bool {
-    family
-        .machines()
-        .iter()
-        .all(|arch| arch.number(name).is_none())
+    for arch in family.machines() {
+        if arch.number(name).is_some() {
+            return false;
+        }
+    }
+    true
 }
 
 // The name of a call that no table has.
@@ -85,6 +87,16 @@ pub(crate) fn tell_names(
     }
 }
 
+// Whether one of these names is left.
+fn is_one_left(settings: &Settings<'_>, part: Part, names: &[Value]) -> bool {
+    for name in names {
+        if is_left(settings, part, name) {
+            return true;
+        }
+    }
+    false
+}
+
 /// Whether names are left of what is written for an entry.
 pub(crate) fn are_left(settings: &Settings<'_>, part: Part, entry: &Value) -> bool {
     if let Some(name) = single_name(entry) {
@@ -94,7 +106,7 @@ pub(crate) fn are_left(settings: &Settings<'_>, part: Part, entry: &Value) -> bo
         return false;
     };
     match names.as_array() {
-        Some(list) => list.iter().any(|name| is_left(settings, part, name)),
+        Some(list) => is_one_left(settings, part, list.as_slice()),
         None => true,
     }
 }

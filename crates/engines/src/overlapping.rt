@@ -14,6 +14,16 @@ fn is_of(rule: &Rule, name: &str) -> bool {
     rule.arch.name(rule.nr) == Some(name)
 }
 
+// The first of these rules for a call of this name.
+fn first_of<'a>(rules: &'a [Rule], name: &str) -> Option<&'a Rule> {
+    for rule in rules {
+        if is_of(rule, name) {
+            return Some(rule);
+        }
+    }
+    None
+}
+
 // The first rule of an entry for a call of this name.
 fn rule_of<'a>(all: &'a EntryRules, entry: usize, name: &str) -> Option<&'a Rule> {
     let end = *all.ends.get(entry)?;
@@ -22,7 +32,7 @@ fn rule_of<'a>(all: &'a EntryRules, entry: usize, name: &str) -> Option<&'a Rule
         None => 0,
     };
     let rules = all.rules.get(start..end)?;
-    rules.iter().find(|rule| is_of(rule, name))
+    first_of(rules, name)
 }
 
 // Adds conditions.
