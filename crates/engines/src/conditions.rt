@@ -1,15 +1,20 @@
 //! The conditions of an entry.
 use crate::actions::text_at;
 use crate::changes::Changes;
-use crate::keys::{CONDITION, member_at, put_member, tell_keys};
+use crate::keys::{CONDITION, member_at, put_member, put_pair, tell_keys};
 use crate::parts::Part;
 use crate::place::Place;
 use crate::text::Text;
 use serde_json::Value;
 
+// The whole number under a key of a condition.
+fn number_at(condition: &Value, key: &str) -> Option<u64> {
+    condition.get(key)?.as_u64()
+}
+
 // A bit for the argument of a condition.
 fn argument_bit(condition: &Value) -> u64 {
-    match condition.get("index").and_then(Value::as_u64) {
+    match number_at(condition, "index") {
         Some(index) if index < 6 => 1 << index,
         _ => 0,
     }
@@ -43,8 +48,8 @@ fn cut_datum(condition: &Value) -> Option<u64> {
     if text_at(condition, "op") != "SCMP_CMP_MASKED_EQ" {
         return None;
     }
-    let mask = condition.get("value")?.as_u64()?;
-    let datum = condition.get("valueTwo")?.as_u64()?;
+    let mask = number_at(condition, "value")?;
+    let datum = number_at(condition, "valueTwo")?;
     if datum & mask == datum {
         None
     } else {
@@ -59,8 +64,7 @@ fn put_second(text: &mut Text, changes: &mut Changes, place: Place<'_>, conditio
     };
     let what = "has bits that are not in value: engines leave them out, and so they are left out";
     changes.tell(place.key("valueTwo"), what, false);
-    text.separate(", ");
-    text.put(format_args!("\"valueTwo\": {cut}"));
+    put_pair(text, "valueTwo", cut);
 }
 
 // Adds the members of a condition.

@@ -1,8 +1,8 @@
 //! The actions and the errors of a section and of its entries.
-use crate::actions::{KILL, KILL_THREAD, refuses, text_at};
+use crate::actions::{KILL_THREAD, refuses, text_at};
 use crate::changes::Changes;
 use crate::errors::error_named;
-use crate::keys::put_member;
+use crate::keys::{put_member, put_pair};
 use crate::place::Place;
 use crate::settings::Settings;
 use crate::text::Text;
@@ -30,6 +30,11 @@ pub(crate) const OF_ENTRY: VerdictKeys = VerdictKeys {
     name: "errno",
 };
 
+// Two actions as they are written.
+const KILL: &str = "\"SCMP_ACT_KILL\"";
+
+const LOG: &str = "\"SCMP_ACT_LOG\"";
+
 // Tells an action that is written by another name.
 fn tell_action(changes: &mut Changes, place: Place<'_>, object: &Value, key: &str) {
     if text_at(object, key) == KILL_THREAD {
@@ -43,8 +48,7 @@ fn put_action(text: &mut Text, object: &Value, key: &str) {
     if text_at(object, key) != KILL_THREAD {
         return put_member(text, object, key);
     }
-    text.separate(", ");
-    text.put(format_args!("\"{key}\": \"{KILL}\""));
+    put_pair(text, key, KILL);
 }
 
 // Tells an error by a name that is not known.
@@ -62,9 +66,7 @@ fn put_error(text: &mut Text, object: &Value, keys: VerdictKeys) {
         return put_member(text, object, keys.number);
     }
     if let Some(number) = error_named(name) {
-        let key = keys.number;
-        text.separate(", ");
-        text.put(format_args!("\"{key}\": {number}"));
+        put_pair(text, keys.number, number);
     }
 }
 
@@ -98,9 +100,7 @@ pub(crate) fn put_verdict(
     keys: VerdictKeys,
 ) {
     if is_logged(settings, text_at(object, keys.action)) {
-        let key = keys.action;
-        text.separate(", ");
-        return text.put(format_args!("\"{key}\": \"SCMP_ACT_LOG\""));
+        return put_pair(text, keys.action, LOG);
     }
     put_action(text, object, keys.action);
     put_error(text, object, keys);
