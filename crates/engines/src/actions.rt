@@ -1,39 +1,43 @@
 //! Actions, by how strict they are (seccomp(2)).
+use crate::capabilities::place_of;
 use serde_json::Value;
 
 /// What engines call an action that is written under another name.
 pub(crate) const KILL_THREAD: &str = "SCMP_ACT_KILL_THREAD";
 
-pub(crate) const KILL: &str = "SCMP_ACT_KILL";
-
 const KILL_PROCESS: &str = "SCMP_ACT_KILL_PROCESS";
 
-// The place of an action in the order of strictness, the strictest first.
-fn place_of(action: &str) -> Option<u8> {
-    match action {
-        "SCMP_ACT_KILL_PROCESS" => Some(0),
-        "SCMP_ACT_KILL" | "SCMP_ACT_KILL_THREAD" => Some(1),
-        "SCMP_ACT_TRAP" => Some(2),
-        "SCMP_ACT_ERRNO" => Some(3),
-        "SCMP_ACT_NOTIFY" => Some(4),
-        "SCMP_ACT_TRACE" => Some(5),
-        "SCMP_ACT_LOG" => Some(6),
-        "SCMP_ACT_ALLOW" => Some(7),
-        _ => None,
+// The actions, the strictest first.
+const ACTIONS: &[&str] = &[
+    "SCMP_ACT_KILL_PROCESS",
+    "SCMP_ACT_KILL",
+    "SCMP_ACT_TRAP",
+    "SCMP_ACT_ERRNO",
+    "SCMP_ACT_NOTIFY",
+    "SCMP_ACT_TRACE",
+    "SCMP_ACT_LOG",
+    "SCMP_ACT_ALLOW",
+];
+
+// The place of an action among them.
+fn rank_of(action: &str) -> Option<usize> {
+    if action == KILL_THREAD {
+        return Some(1);
     }
+    place_of(ACTIONS, action)
 }
 
 /// Whether an action refuses a call: logged in its place, the call is let through.
 pub(crate) fn refuses(action: &str) -> bool {
-    match place_of(action) {
-        Some(place) => place < 6,
+    match rank_of(action) {
+        Some(rank) => rank < 6,
         None => false,
     }
 }
 
 /// Whether an action is stricter than another, or may be: one that is not known may be anything.
 pub(crate) fn may_be_stricter(action: &str, other: &str) -> bool {
-    match (place_of(action), place_of(other)) {
+    match (rank_of(action), rank_of(other)) {
         (Some(first), Some(second)) => first < second,
         _ => true,
     }
@@ -49,13 +53,23 @@ fn may_kill_process(entry: &Value) -> bool {
     text_at(entry, "action") == KILL_PROCESS
 }
 
+// Whether that is so of one of several entries.
+fn one_may_kill_process(entries: &[Value]) -> bool {
+    for entry in entries {
+        if may_kill_process(entry) {
+            return true;
+        }
+    }
+    false
+}
+
 /// Whether a section says KILL_PROCESS somewhere, which is stricter than what calls of unlisted machines get.
 pub(crate) fn says_kill_process(section: &Value) -> bool {
     if text_at(section, "defaultAction") == KILL_PROCESS {
         return true;
     }
     match section.get("syscalls").and_then(Value::as_array) {
-        Some(entries) => entries.iter().any(|entry| may_kill_process(entry)),
+        Some(entries) => one_may_kill_process(entries.as_slice()),
         None => false,
     }
 }

@@ -3,27 +3,31 @@ use crate::actions::text_at;
 use crate::changes::Changes;
 use crate::config::{Section, put_edition, tell_section_keys};
 use crate::entries::put_entries;
-use crate::keys::put_member;
+use crate::keys::{is_one_of, put_member};
 use crate::machines::put_machines;
+use crate::parts::Part;
 use crate::place::Place;
 use crate::settings::Settings;
 use crate::text::Text;
-use crate::verdicts::{OF_SECTION, put_verdict};
+use crate::verdicts::{OF_SECTION, put_verdict, tell_verdict};
 use call_tables::Family;
 use serde_json::Value;
 use std::alloc::{AllocError, Global};
 
-/// A bundle, and where each of its entries stood in the configuration.
+/// A bundle, and for what in the configuration each of its entries stands.
 #[derive(Drop)]
 pub(crate) struct Bundle {
     pub(crate) text: String,
-    places: Vec<usize>,
+    parts: Vec<Part>,
 }
 
 impl Bundle {
-    /// Where an entry stood in the configuration.
-    pub(crate) fn place_of(&self, entry: usize) -> usize {
-        self.places.get(entry).copied().unwrap_or(entry)
+    /// For what in the configuration an entry stands.
+    pub(crate) fn part_of(&self, entry: usize) -> Part {
+        match self.parts.get(entry) {
+            Some(part) => *part,
+            None => Part::whole(entry),
+        }
     }
 }
 
@@ -42,9 +46,9 @@ const HARMLESS_FLAGS: &[&str] = &[
     "SECCOMP_FILTER_FLAG_WAIT_KILLABLE_RECV",
 ];
 
-fn is_one_of(flags: &'static [&'static str], flag: &Value) -> bool {
-    let name = flag.as_str().unwrap_or("");
-    flags.iter().any(|other| *other == name)
+// Whether a flag is one of these.
+fn is_flag_of(flags: &'static [&'static str], flag: &Value) -> bool {
+    is_one_of(flags, flag.as_str().unwrap_or(""))
 }
 
 // Whether what stands in a section beside its profile is read for a family.
@@ -67,7 +71,7 @@ fn flags_of(family: Family) -> &'static [&'static str] {
 fn tell_flag(changes: &mut Changes, place: Place<'_>, flag: &Value) {
     let name = flag.as_str().unwrap_or("");
     let what = "is not read, and left out";
-    changes.tell_text(place, name, what, !is_one_of(HARMLESS_FLAGS, flag));
+    changes.tell_text(place, name, what, !is_flag_of(HARMLESS_FLAGS, flag));
 }
 
 // Adds the flags that are read, and tells the others.
@@ -80,7 +84,7 @@ fn put_each_flag(
 ) {
     let mut has_begun = false;
     for (at, flag) in flags.iter().enumerate() {
-        if !is_one_of(read, flag) {
+        if !is_flag_of(read, flag) {
             tell_flag(changes, place.member(at), flag);
         } else {
             if !has_begun {
@@ -148,7 +152,8 @@ fn put_head(
     place: Place<'_>,
     section: &Value,
 ) {
-    put_verdict(text, changes, settings, place, section, OF_SECTION);
+    tell_verdict(changes, settings, place, section, OF_SECTION);
+    put_verdict(text, settings, section, OF_SECTION);
     let family = settings.family();
     put_flags(text, changes, family, place, section);
     put_listener(text, changes, family, place, section, "listenerPath");
@@ -156,11 +161,11 @@ fn put_head(
     put_machines(text, changes, settings, place, section);
 }
 
-// Adds a section's entries, if it has some, and where each stood.
+// Adds a section's entries, if it has some, and for what each stands.
 fn put_syscalls(
     text: &mut Text,
     changes: &mut Changes,
-    places: &mut Vec<usize>,
+    parts: &mut Vec<Part>,
     settings: &Settings<'_>,
     place: Place<'_>,
     section: &Value,
@@ -170,7 +175,7 @@ fn put_syscalls(
     };
     text.separate(",\n      ");
     text.begin("\"syscalls\": [");
-    put_entries(text, changes, places, settings, place, list.as_slice());
+    put_entries(text, changes, parts, settings, place, list.as_slice());
     if !text.has_begun() {
         text.put("\n      ");
     }
@@ -187,7 +192,7 @@ pub(crate) fn bundle_of(
 ) -> Result<Bundle, AllocError> {
     tell_section_keys(changes, config, section, settings.container().is_some());
     let mut text = Text::new(alloc);
-    let mut places = Vec::new(alloc);
+    let mut parts = Vec::new(alloc);
     let place = Place::top(section.top);
     text.put("{\n  \"ociVersion\": ");
     put_edition(&mut text, changes, settings.family(), config);
@@ -196,7 +201,7 @@ pub(crate) fn bundle_of(
     put_syscalls(
         &mut text,
         changes,
-        &mut places,
+        &mut parts,
         settings,
         place,
         section.value,
@@ -204,6 +209,6 @@ pub(crate) fn bundle_of(
     text.end("\n    }\n  }\n}\n");
     Ok(Bundle {
         text: text.whole()?,
-        places,
+        parts,
     })
 }

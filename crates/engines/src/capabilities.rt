@@ -4,6 +4,8 @@ ghost use Rattle.std.specs.Str.{bytes_eq};
 ghost use Rattle.engines.specs.Words.{capability_called};
 ghost use Rattle.engines.specs.inner.Reading.{engine_called};
 
+use crate::keys::is_one_of;
+
 /// A container engine.
 #[derive(Clone, Copy, Debug, PartialEq, Eq)]
 pub enum Engine {
@@ -95,12 +97,8 @@ pub struct Capabilities {
     pub more: u64,
 }
 
-fn is_one_of(names: &[&str], name: &str) -> bool {
-    names.iter().any(|other| *other == name)
-}
-
-// The place of a name among names.
-fn place_of(names: &[&str], name: &str) -> Option<usize>
+/// The place of a name among names.
+pub(crate) fn place_of(names: &[&str], name: &str) -> Option<usize>
     ensures place { result ≡ position (λ n. bytes_eq n.now name.now) names.now }
     ensures within { IfSome result (λ place. place < length names.now) }
 {

@@ -1,5 +1,5 @@
 //! What was changed, told with its place.
-use crate::place::Place;
+use crate::place::{Place, put_place};
 use crate::text::Text;
 use std::alloc::Global;
 
@@ -20,6 +20,12 @@ impl Changes {
         }
     }
 
+    // Begins a line with a place.
+    fn begin(&mut self, place: Place<'_>) {
+        put_place(&mut self.lines, place);
+        self.lines.put(": ");
+    }
+
     // Ends the line of a change.
     fn end(&mut self, widens: bool) {
         if widens {
@@ -31,27 +37,32 @@ impl Changes {
 
     /// Tells a change.
     pub(crate) fn tell(&mut self, place: Place<'_>, what: &str, widens: bool) {
-        self.lines.put(format_args!("{place}: {what}"));
+        self.begin(place);
+        self.lines.put(what);
         self.end(widens);
     }
 
     /// Tells a change of a text.
     pub(crate) fn tell_text(&mut self, place: Place<'_>, text: &str, what: &str, widens: bool) {
-        self.lines.put(format_args!("{place}: {text:?} {what}"));
+        self.begin(place);
+        self.lines.put(format_args!("{text:?} {what}"));
         self.end(widens);
     }
 
     /// Tells why no bundle can be made.
     pub(crate) fn refuse(&mut self, place: Place<'_>, why: &str) {
         self.is_refused = true;
-        self.lines.put(format_args!("{place}: {why}\n"));
+        self.begin(place);
+        self.lines.put(why);
+        self.lines.put("\n");
     }
 
     /// Tells that a key is another one to engines.
     pub(crate) fn refuse_key(&mut self, place: Place<'_>, meant: &str) {
         self.is_refused = true;
+        self.begin(place);
         self.lines.put(format_args!(
-            "{place}: engines read it as {meant}, and ccell passes over it: write {meant}\n"
+            "engines read it as {meant}, and ccell passes over it: write {meant}\n"
         ));
     }
 

@@ -1,6 +1,6 @@
 //! The section of a configuration, and its edition.
 use crate::changes::Changes;
-use crate::keys::{SECTION, member_at, tell_keys, tell_other_cases};
+use crate::keys::{SECTION, is_one_of, member_at, tell_keys, tell_other_cases};
 use crate::place::Place;
 use crate::text::Text;
 use call_tables::Family;
@@ -73,7 +73,7 @@ fn editions_of(family: Family) -> &'static [&'static str] {
 }
 
 fn is_read(family: Family, edition: &str) -> bool {
-    editions_of(family).iter().any(|read| *read == edition)
+    is_one_of(editions_of(family), edition)
 }
 
 /// Adds the edition of a configuration: one of the first that is not read is written as one that is.

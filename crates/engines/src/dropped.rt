@@ -1,17 +1,19 @@
 //! The names of entries that give way to other entries.
 use crate::bundle::Bundle;
 use crate::changes::Changes;
-use crate::place::Place;
+use crate::keys::is_one_of;
+use crate::parts::Part;
+use crate::place::put_place;
 use profile::Rule;
 use profile_json::EntryRules;
 use std::alloc::{AllocError, Global};
 use std::collections::BTreeMap;
 use wording::ActionText;
 
-/// The names that give way, by the places of their entries in the configuration.
+/// The names that give way, by what is written for the entries of the configuration.
 #[derive(Drop)]
 pub(crate) struct Dropped {
-    names: BTreeMap<usize, Vec<&'static str>>,
+    names: BTreeMap<(usize, usize), Vec<&'static str>>,
 }
 
 impl Dropped {
@@ -21,32 +23,32 @@ impl Dropped {
         }
     }
 
-    /// Whether a name of an entry gives way.
-    pub(crate) fn contains(&self, entry: usize, name: &str) -> bool {
-        match self.names.get(&entry) {
-            Some(names) => names.iter().any(|other| *other == name),
+    /// Whether a name of a written entry gives way.
+    pub(crate) fn contains(&self, part: Part, name: &str) -> bool {
+        match self.names.get(&part.key()) {
+            Some(names) => is_one_of(names.as_slice(), name),
             None => false,
         }
     }
 
-    // Adds a name of an entry.
-    fn add(&mut self, alloc: Global, entry: usize, name: &'static str) -> Result<(), AllocError> {
-        if let Some(names) = self.names.get_mut(&entry) {
+    // Adds a name of a written entry.
+    fn add(&mut self, alloc: Global, part: Part, name: &'static str) -> Result<(), AllocError> {
+        if let Some(names) = self.names.get_mut(&part.key()) {
             names.push(name)?;
             return Ok(());
         }
         let mut names = Vec::new(alloc);
         names.push(name)?;
-        self.names.insert(entry, names)?;
+        self.names.insert(part.key(), names)?;
         Ok(())
     }
 }
 
-// A rule with the place that its entry has in the configuration.
-fn with_entry<'a>(bundle: &Bundle, all: &'a EntryRules, place: usize) -> Option<(&'a Rule, usize)> {
+// A rule with what its entry stands for in the configuration.
+fn with_part<'a>(bundle: &Bundle, all: &'a EntryRules, place: usize) -> Option<(&'a Rule, Part)> {
     let entry = all.entry_of(place)?;
     let rule = all.rules.get(place)?;
-    Some((rule, bundle.place_of(entry)))
+    Some((rule, bundle.part_of(entry)))
 }
 
 // Tells that a name of an entry gives way to another entry.
@@ -54,16 +56,16 @@ fn tell_giving_way(
     changes: &mut Changes,
     top: &'static str,
     name: &str,
-    (rule, entry): (&Rule, usize),
-    (other, stays): (&Rule, usize),
+    (rule, part): (&Rule, Part),
+    (other, stays): (&Rule, Part),
 ) {
-    let here = Place::top(top).entry(entry);
-    let there = Place::top(top).entry(stays);
     let action = ActionText(rule.word);
     let kept = ActionText(other.word);
-    changes.lines.put(format_args!(
-        "{here}: {name} gets {action}, and gives way to {there}, where it gets {kept}\n"
-    ));
+    let lines = &mut changes.lines;
+    put_place(lines, part.place(top));
+    lines.put(format_args!(": {name} gets {action}, and gives way to "));
+    put_place(lines, stays.place(top));
+    lines.put(format_args!(", where it gets {kept}\n"));
 }
 
 /// The names whose rules give way to those at other places, which is told.
@@ -100,10 +102,10 @@ fn drop_name(
     all: &EntryRules,
     (place, winner): (usize, usize),
 ) -> Result<(), AllocError> {
-    let Some(loser) = with_entry(bundle, all, place) else {
+    let Some(loser) = with_part(bundle, all, place) else {
         return Ok(());
     };
-    let Some(other) = with_entry(bundle, all, winner) else {
+    let Some(other) = with_part(bundle, all, winner) else {
         return Ok(());
     };
     let name = loser.0.arch.name(loser.0.nr).unwrap_or("");

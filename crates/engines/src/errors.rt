@@ -1,4 +1,5 @@
 //! Errors by their names (errno(3); include/uapi/asm-generic/errno.h).
+use crate::capabilities::place_of;
 
 // The names by their numbers, with an empty one where there is none.
 const ERRORS: &[&str] = &[
@@ -145,6 +146,6 @@ pub(crate) fn error_named(name: &str) -> Option<usize> {
         "EWOULDBLOCK" => Some(11),
         "EDEADLOCK" => Some(35),
         "ENOTSUP" => Some(95),
-        _ => ERRORS.iter().position(|other| *other == name),
+        _ => place_of(ERRORS, name),
     }
 }

@@ -1,8 +1,8 @@
 //! For which containers an entry of an engine's own profile counts.
 use crate::changes::Changes;
 use crate::kernels::{Kernel, kernel_of};
-use crate::keys::{FILTER, is_void, tell_unknown};
-use crate::place::Place;
+use crate::keys::{FILTER, is_one_of, is_void, tell_unknown};
+use crate::place::{Place, put_place};
 use crate::settings::Settings;
 use crate::words::Container;
 use call_tables::Arch;
@@ -44,14 +44,23 @@ fn edition_in(entry: &Value, filter: &str) -> Option<Kernel> {
 
 // Whether a list has a text.
 fn has(list: &[Value], text: &str) -> bool {
-    list.iter().any(|member| member.as_str() == Some(text))
+    for member in list {
+        if member.as_str() == Some(text) {
+            return true;
+        }
+    }
+    false
 }
 
 // The first of the capabilities of a list that the container has, or has not.
 fn first_capability<'a>(list: &'a [Value], container: Container, has: bool) -> Option<&'a str> {
-    let found = list.iter().find(|name| container.capabilities.have(name.as_str().unwrap_or(""))
-        == has)?;
-    Some(found.as_str().unwrap_or(""))
+    for member in list {
+        let name = member.as_str().unwrap_or("");
+        if container.capabilities.have(name) == has {
+            return Some(name);
+        }
+    }
+    None
 }
 
 // Whether an entry is for other machines.
@@ -77,9 +86,17 @@ fn is_for_other_kernels(container: Container, entry: &Value) -> bool {
 
 // Tells that an entry does not count, and why.
 fn tell_not_counting(changes: &mut Changes, place: Place<'_>, joined: &str, what: &str) {
+    put_place(&mut changes.lines, place);
     changes
         .lines
-        .put(format_args!("{place}: does not count {joined} {what}\n"));
+        .put(format_args!(": does not count {joined} {what}\n"));
+}
+
+// Tells that an entry does not count on a kernel.
+fn tell_other_kernel(changes: &mut Changes, place: Place<'_>, kernel: Kernel) {
+    let Kernel { major, minor } = kernel;
+    put_place(&mut changes.lines, place);
+    changes.lines.put(format_args!(": does not count on Linux {major}.{minor}\n"));
 }
 
 // Whether an entry counts for a container, which is told if it does not.
@@ -103,11 +120,18 @@ fn counts_for(
         return false;
     }
     if is_for_other_kernels(container, entry) {
-        let kernel = container.kernel;
-        changes
-            .lines
-            .put(format_args!("{place}: does not count on {kernel}\n"));
+        tell_other_kernel(changes, place, container.kernel);
         return false;
+    }
+    true
+}
+
+// Whether each member of a list is a text.
+fn are_texts(list: &[Value]) -> bool {
+    for member in list {
+        if !member.is_string() {
+            return false;
+        }
     }
     true
 }
@@ -121,7 +145,7 @@ fn is_read(key: &str, member: &Value) -> bool {
         return kernel_of(member.as_str().unwrap_or("")).is_some();
     }
     match member.as_array() {
-        Some(list) => list.iter().all(|name| name.is_string()),
+        Some(list) => are_texts(list.as_slice()),
         None => false,
     }
 }
@@ -136,7 +160,7 @@ fn tell_filter(changes: &mut Changes, place: Place<'_>, filter: &Value) {
     };
     tell_unknown(changes, place, filter, FILTER);
     for (key, member) in members.iter() {
-        if FILTER.iter().any(|known| *known == key.as_str()) && !is_read(key.as_str(), member) {
+        if is_one_of(FILTER, key.as_str()) && !is_read(key.as_str(), member) {
             changes.refuse(
                 place,
                 "a member that is no list of texts, or no kernel's edition",

@@ -3,7 +3,6 @@ ghost use Rattle.std.specs.Prelude.{◌≡◌, ◌^◌, nat_lt, Some, None, if�
 ghost use Rattle.std.specs.Str.Parse.{IsNumeral, digits_value};
 ghost use Rattle.engines.specs.Words.{edition_called, number_at};
 
-use std::fmt;
 use texts::{is_decimal, split};
 
 /// A kernel's edition, as `6.12`: what stands before the dot and behind it.
@@ -26,13 +25,6 @@ impl Kernel {
             return self.major > edition.major;
         }
         self.minor >= edition.minor
-    }
-}
-
-impl fmt::Display for Kernel {
-    fn fmt<W: fmt::Write>(&self, f: &mut fmt::Formatter<W>) -> fmt::Result {
-        let Kernel { major, minor } = *self;
-        write!(f, "Linux {major}.{minor}")
     }
 }
 

@@ -4,6 +4,7 @@ use crate::place::Place;
 use crate::text::Text;
 use section::{ARGUMENT_KEYS, ENTRY_KEYS, SECTION_KEYS};
 use serde_json::Value;
+use std::fmt::Display;
 
 /// Keys that are known: those that every command reads, and those beside them.
 #[derive(Clone, Copy)]
@@ -86,17 +87,24 @@ pub(crate) const READ: &[&str] = &[
     "subArchitectures",
 ];
 
-fn is_one_of(keys: &[&str], key: &str) -> bool {
-    keys.iter().any(|other| *other == key)
+/// Whether a name is one of these.
+pub(crate) fn is_one_of(names: &[&str], name: &str) -> bool {
+    for other in names {
+        if *other == name {
+            return true;
+        }
+    }
+    false
 }
 
 // The key as which engines read another one.
 fn meant_by(key: &str) -> Option<&'static str> {
-    let meant = READ
-        .iter()
-        .copied()
-        .find(|other| other.eq_ignore_ascii_case(key))?;
-    if meant == key { None } else { Some(meant) }
+    for meant in READ {
+        if meant.eq_ignore_ascii_case(key) {
+            return if *meant == key { None } else { Some(*meant) };
+        }
+    }
+    None
 }
 
 /// Whether a member is as good as missing to engines.
@@ -192,10 +200,15 @@ pub(crate) fn member_at<'a>(object: &'a Value, key: &str) -> Option<&'a Value> {
     if member.is_null() { None } else { Some(member) }
 }
 
+/// Adds a key with what stands under it, behind the members that the object has.
+pub(crate) fn put_pair(text: &mut Text, key: &str, member: impl Display + Drop) {
+    text.separate(", ");
+    text.put(format_args!("\"{key}\": {member}"));
+}
+
 /// Adds a key with its member, if it says something, behind the members that the object has.
 pub(crate) fn put_member(text: &mut Text, object: &Value, key: &str) {
     if let Some(member) = member_at(object, key) {
-        text.separate(", ");
-        text.put(format_args!("\"{key}\": {member}"));
+        put_pair(text, key, format_args!("{member}"));
     }
 }

@@ -22,6 +22,7 @@ mod machines;
 mod making;
 mod names;
 mod overlapping;
+mod parts;
 mod place;
 mod settings;
 mod settling;

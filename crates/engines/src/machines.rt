@@ -11,8 +11,10 @@ use serde_json::Value;
 // The name of a machine that is not known.
 fn unknown_machine(family: Family, machine: &Value) -> Option<&str> {
     let name = machine.as_str()?;
-    if family.machines().iter().any(|arch| arch.scmp() == name) {
-        return None;
+    for arch in family.machines() {
+        if arch.scmp() == name {
+            return None;
+        }
     }
     Some(name)
 }
@@ -34,22 +36,46 @@ fn put_machine(
     text.put(format_args!("{machine}"));
 }
 
-// Adds the list of machines that are known. Where none is, though some are listed, no bundle can be made: an empty list would
-// be the native machine alone.
+// Whether a list has machines, and the native one is none of them. What is no text is refused as such.
+fn lacks_native(native: Arch, machines: &[Value]) -> bool {
+    let name = native.scmp();
+    for machine in machines {
+        match machine.as_str() {
+            Some(other) if other != name => {}
+            _ => return false,
+        }
+    }
+    !machines.is_empty()
+}
+
+// Adds the native machine to a list of others: engines have it in each filter.
+fn put_native(text: &mut Text, changes: &mut Changes, place: Place<'_>, native: Arch) {
+    let name = native.scmp();
+    let what = "is the native machine, and added: engines have it in each filter";
+    changes.tell_text(place, name, what, false);
+    text.separate(", ");
+    text.put(format_args!("\"{name}\""));
+}
+
+// Adds the list of machines that are known, and the native one to others. Where none is known, though some are listed, no bundle is
+// made: engines refuse machines whose order of bytes is another.
 fn put_list(
     text: &mut Text,
     changes: &mut Changes,
-    family: Family,
+    native: Arch,
     place: Place<'_>,
     machines: &[Value],
     widens: bool,
 ) {
+    let family = native.family();
     text.begin("[");
     for (at, machine) in machines.iter().enumerate() {
         put_machine(text, changes, family, place.member(at), machine, widens);
     }
     if text.has_begun() && !machines.is_empty() {
         changes.refuse(place, "no machine is listed that ccell knows");
+    } else if lacks_native(native, machines) {
+        put_native(text, changes, place, native);
     }
     text.end("]");
 }
@@ -58,7 +84,7 @@ fn put_list(
 fn put_listed(
     text: &mut Text,
     changes: &mut Changes,
-    family: Family,
+    native: Arch,
     place: Place<'_>,
     section: &Value,
 ) {
@@ -72,13 +98,17 @@ fn put_listed(
     };
     let place = place.key("architectures");
     let widens = says_kill_process(section);
-    put_list(text, changes, family, place, machines.as_slice(), widens);
+    put_list(text, changes, native, place, machines.as_slice(), widens);
 }
 
 // The place of the row for a machine.
 fn row_for(native: Arch, rows: &[Value]) -> Option<usize> {
-    rows.iter()
-        .position(|row| text_at(row, "architecture") == native.scmp())
+    for (at, row) in rows.iter().enumerate() {
+        if text_at(row, "architecture") == native.scmp() {
+            return Some(at);
+        }
+    }
+    None
 }
 
 // The machines that stand in a row besides.
@@ -158,5 +188,5 @@ pub(crate) fn put_machines(
     if settings.container().is_some() && says_something(section, "archMap") {
         return put_mapped(text, changes, settings, place, section);
     }
-    put_listed(text, changes, settings.family(), place, section);
+    put_listed(text, changes, settings.native, place, section);
 }

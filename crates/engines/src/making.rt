@@ -104,8 +104,8 @@ fn refusal(
             );
             let error = ProfileError::Overlap {
                 name,
-                first: bundle.place_of(first),
-                second: bundle.place_of(second),
+                first: bundle.part_of(first).entry,
+                second: bundle.part_of(second).entry,
             };
             refused_profile(alloc, error)
         }

@@ -2,6 +2,7 @@
 use crate::actions::text_at;
 use crate::changes::Changes;
 use crate::keys::member_at;
+use crate::parts::Part;
 use crate::place::Place;
 use crate::settings::Settings;
 use crate::text::Text;
@@ -10,10 +11,12 @@ use serde_json::Value;
 
 // Whether a name stands in the table of no machine of the family.
 fn is_unknown(family: Family, name: &str) -> bool {
-    family
-        .machines()
-        .iter()
-        .all(|arch| arch.number(name).is_none())
+    for arch in family.machines() {
+        if arch.number(name).is_some() {
+            return false;
+        }
+    }
+    true
 }
 
 // The name of a call that no table has.
@@ -27,26 +30,24 @@ fn unknown_name(family: Family, name: &Value) -> Option<&str> {
 }
 
 // Whether a name of an entry is left: one that a table has and that does not give way.
-fn is_left(settings: &Settings<'_>, entry: usize, name: &Value) -> bool {
+fn is_left(settings: &Settings<'_>, part: Part, name: &Value) -> bool {
     match name.as_str() {
-        Some(text) => { !is_unknown(settings.family(), text) && !settings.drops(entry, text) }
+        Some(text) => { !is_unknown(settings.family(), text) && !settings.drops(part, text) }
         None => true,
     }
 }
 
-// Tells the names of an entry that no table has.
-fn tell_names(
+// Tells a name if no table has it.
+fn tell_name(
     changes: &mut Changes,
     family: Family,
     place: Place<'_>,
-    names: &[Value],
+    name: &Value,
     is_stricter: bool,
 ) {
-    for (at, name) in names.iter().enumerate() {
-        if let Some(unknown) = unknown_name(family, name) {
-            let what = "is in no table, and left out";
-            changes.tell_text(place.member(at), unknown, what, is_stricter);
-        }
+    if let Some(unknown) = unknown_name(family, name) {
+        let what = "is in no table, and left out";
+        changes.tell_text(place, unknown, what, is_stricter);
     }
 }
 
@@ -58,57 +59,63 @@ fn single_name(entry: &Value) -> Option<&Value> {
     entry.get("name")
 }
 
-// Whether the one name of an entry is left, which is told if no table has it.
-fn is_single_left(
-    changes: &mut Changes,
-    settings: &Settings<'_>,
-    (at, place): (usize, Place<'_>),
-    name: &Value,
-    is_stricter: bool,
-) -> bool {
-    if let Some(unknown) = unknown_name(settings.family(), name) {
-        let what = "is in no table, and left out";
-        changes.tell_text(place.key("name"), unknown, what, is_stricter);
+// The names of an entry as newer files have them.
+fn listed_names(entry: &Value) -> &[Value] {
+    match entry.get("names").and_then(Value::as_array) {
+        Some(list) => list.as_slice(),
+        None => &[],
     }
-    is_left(settings, at, name)
 }
 
-/// Whether names of an entry are left, of which those that no table has are told.
-pub(crate) fn are_left(
+/// Tells the names of an entry that no table has.
+pub(crate) fn tell_names(
     changes: &mut Changes,
-    settings: &Settings<'_>,
-    (at, place): (usize, Place<'_>),
+    family: Family,
+    place: Place<'_>,
     entry: &Value,
     is_stricter: bool,
-) -> bool {
+) {
     if let Some(name) = single_name(entry) {
         if member_at(entry, "names").is_some() {
             changes.refuse(place, "name and names");
         }
-        return is_single_left(changes, settings, (at, place), name, is_stricter);
+        return tell_name(changes, family, place.key("name"), name, is_stricter);
+    }
+    let place = place.key("names");
+    for (at, name) in listed_names(entry).iter().enumerate() {
+        tell_name(changes, family, place.member(at), name, is_stricter);
+    }
+}
+
+// Whether one of these names is left.
+fn is_one_left(settings: &Settings<'_>, part: Part, names: &[Value]) -> bool {
+    for name in names {
+        if is_left(settings, part, name) {
+            return true;
+        }
+    }
+    false
+}
+
+/// Whether names are left of what is written for an entry.
+pub(crate) fn are_left(settings: &Settings<'_>, part: Part, entry: &Value) -> bool {
+    if let Some(name) = single_name(entry) {
+        return is_left(settings, part, name);
     }
     let Some(names) = member_at(entry, "names") else {
         return false;
     };
-    let Some(list) = names.as_array() else {
-        return true;
-    };
-    let names = list.as_slice();
-    tell_names(
-        changes,
-        settings.family(),
-        place.key("names"),
-        names,
-        is_stricter,
-    );
-    names.iter().any(|name| is_left(settings, at, name))
+    match names.as_array() {
+        Some(list) => is_one_left(settings, part, list.as_slice()),
+        None => true,
+    }
 }
 
 // Adds the list of those names that are left.
-fn put_list(text: &mut Text, settings: &Settings<'_>, at: usize, names: &[Value]) {
+fn put_list(text: &mut Text, settings: &Settings<'_>, part: Part, names: &[Value]) {
     text.begin("[");
     for name in names {
-        if is_left(settings, at, name) {
+        if is_left(settings, part, name) {
             text.separate(", ");
             text.put(format_args!("{name}"));
         }
@@ -117,7 +124,7 @@ fn put_list(text: &mut Text, settings: &Settings<'_>, at: usize, names: &[Value]
 }
 
 /// Adds the names of an entry that are left. What is no list stays what it is.
-pub(crate) fn put_names(text: &mut Text, settings: &Settings<'_>, at: usize, entry: &Value) {
+pub(crate) fn put_names(text: &mut Text, settings: &Settings<'_>, part: Part, entry: &Value) {
     if let Some(name) = single_name(entry) {
         return text.put(format_args!("[{name}]"));
     }
@@ -125,7 +132,7 @@ pub(crate) fn put_names(text: &mut Text, settings: &Settings<'_>, at: usize, ent
         return;
     };
     match names.as_array() {
-        Some(list) => put_list(text, settings, at, list.as_slice()),
+        Some(list) => put_list(text, settings, part, list.as_slice()),
         None => text.put(format_args!("{names}")),
     }
 }

@@ -1,7 +1,7 @@
 //! Two entries that give unlike verdicts to one call.
 use crate::bundle::Bundle;
 use crate::changes::Changes;
-use crate::place::Place;
+use crate::place::{Place, put_place};
 use crate::text::Text;
 use call_tables::Arch;
 use profile::{Cond, Rule};
@@ -14,6 +14,16 @@ fn is_of(rule: &Rule, name: &str) -> bool {
     rule.arch.name(rule.nr) == Some(name)
 }
 
+// The first of these rules for a call of this name.
+fn first_of<'a>(rules: &'a [Rule], name: &str) -> Option<&'a Rule> {
+    for rule in rules {
+        if is_of(rule, name) {
+            return Some(rule);
+        }
+    }
+    None
+}
+
 // The first rule of an entry for a call of this name.
 fn rule_of<'a>(all: &'a EntryRules, entry: usize, name: &str) -> Option<&'a Rule> {
     let end = *all.ends.get(entry)?;
@@ -22,7 +32,7 @@ fn rule_of<'a>(all: &'a EntryRules, entry: usize, name: &str) -> Option<&'a Rule
         None => 0,
     };
     let rules = all.rules.get(start..end)?;
-    rules.iter().find(|rule| is_of(rule, name))
+    first_of(rules, name)
 }
 
 // Adds conditions.
@@ -39,7 +49,8 @@ fn put_conditions(text: &mut Text, conds: &[Cond]) {
 fn put_side(text: &mut Text, all: &EntryRules, entry: usize, place: Place<'_>, name: &str) {
     if let Some(rule) = rule_of(all, entry, name) {
         let action = ActionText(rule.word);
-        text.put(format_args!("{place}: {name} gets {action}"));
+        put_place(text, place);
+        text.put(format_args!(": {name} gets {action}"));
         put_conditions(text, rule.conds.as_slice());
         text.put("\n");
     }
@@ -58,7 +69,7 @@ pub(crate) fn put_sides(
         return;
     };
     for side in sides {
-        let place = Place::top(top).entry(bundle.place_of(side));
+        let place = bundle.part_of(side).place(top);
         put_side(&mut changes.lines, &all, side, place, name);
     }
 }

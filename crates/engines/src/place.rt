@@ -1,5 +1,5 @@
 //! Places in a configuration.
-use std::fmt;
+use crate::text::Text;
 
 /// A place in a configuration: the section, an entry of it, a condition of the entry; a key of one of these, and a member of
 /// the list under the key. The section stands behind `top`, which is empty where it stands by itself.
@@ -60,50 +60,41 @@ impl<'a> Place<'a> {
     }
 }
 
-// Each of the next four writes a part of a place, if it is there.
+// Each of the next four adds a part of a place, if it is there.
 
-fn write_entry<W: fmt::Write>(f: &mut fmt::Formatter<W>, entry: Option<usize>) -> fmt::Result {
-    match entry {
-        Some(entry) => write!(f, "syscalls[{entry}]"),
-        None => Ok(()),
+fn put_entry(text: &mut Text, entry: Option<usize>) {
+    if let Some(entry) = entry {
+        text.put(format_args!("syscalls[{entry}]"));
     }
 }
 
-fn write_condition<W: fmt::Write>(
-    f: &mut fmt::Formatter<W>,
-    condition: Option<usize>,
-) -> fmt::Result {
-    match condition {
-        Some(condition) => write!(f, ".args[{condition}]"),
-        None => Ok(()),
+fn put_condition(text: &mut Text, condition: Option<usize>) {
+    if let Some(condition) = condition {
+        text.put(format_args!(".args[{condition}]"));
     }
 }
 
-fn write_key<W: fmt::Write>(f: &mut fmt::Formatter<W>, place: &Place<'_>) -> fmt::Result {
-    let key = place.key;
-    if key == "" {
-        return Ok(());
+fn put_key(text: &mut Text, place: Place<'_>) {
+    if place.key == "" {
+        return;
     }
     if place.entry.is_some() {
-        return write!(f, ".{key}");
+        text.put(".");
     }
-    write!(f, "{key}")
+    text.put(place.key);
 }
 
-fn write_member<W: fmt::Write>(f: &mut fmt::Formatter<W>, member: Option<usize>) -> fmt::Result {
-    match member {
-        Some(member) => write!(f, "[{member}]"),
-        None => Ok(()),
+fn put_member(text: &mut Text, member: Option<usize>) {
+    if let Some(member) = member {
+        text.put(format_args!("[{member}]"));
     }
 }
 
-impl fmt::Display for Place<'_> {
-    fn fmt<W: fmt::Write>(&self, f: &mut fmt::Formatter<W>) -> fmt::Result {
-        let top = self.top;
-        write!(f, "{top}")?;
-        write_entry(f, self.entry)?;
-        write_condition(f, self.condition)?;
-        write_key(f, self)?;
-        write_member(f, self.member)
-    }
+/// Adds a place.
+pub(crate) fn put_place(text: &mut Text, place: Place<'_>) {
+    text.put(place.top);
+    put_entry(text, place.entry);
+    put_condition(text, place.condition);
+    put_key(text, place);
+    put_member(text, place.member);
 }

@@ -1,5 +1,6 @@
 //! What is known wherever a part of a configuration is judged.
 use crate::dropped::Dropped;
+use crate::parts::Part;
 use crate::words::{Container, Wanted};
 use call_tables::{Arch, Family};
 
@@ -22,10 +23,10 @@ impl Settings<'_> {
         self.wanted.container
     }
 
-    /// Whether a name of an entry, by its place in the configuration, gives way.
-    pub(crate) fn drops(&self, entry: usize, name: &str) -> bool {
+    /// Whether a name of what is written for an entry gives way.
+    pub(crate) fn drops(&self, part: Part, name: &str) -> bool {
         match self.dropped {
-            Some(dropped) => dropped.contains(entry, name),
+            Some(dropped) => dropped.contains(part, name),
             None => false,
         }
     }

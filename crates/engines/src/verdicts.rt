@@ -1,8 +1,8 @@
 //! The actions and the errors of a section and of its entries.
-use crate::actions::{KILL, KILL_THREAD, refuses, text_at};
+use crate::actions::{KILL_THREAD, refuses, text_at};
 use crate::changes::Changes;
 use crate::errors::error_named;
-use crate::keys::put_member;
+use crate::keys::{put_member, put_pair};
 use crate::place::Place;
 use crate::settings::Settings;
 use crate::text::Text;
@@ -30,40 +30,53 @@ pub(crate) const OF_ENTRY: VerdictKeys = VerdictKeys {
     name: "errno",
 };
 
+// Two actions as they are written.
+const KILL: &str = "\"SCMP_ACT_KILL\"";
+
+const LOG: &str = "\"SCMP_ACT_LOG\"";
+
+// Tells an action that is written by another name.
+fn tell_action(changes: &mut Changes, place: Place<'_>, object: &Value, key: &str) {
+    if text_at(object, key) == KILL_THREAD {
+        let what = "SCMP_ACT_KILL_THREAD, and written as SCMP_ACT_KILL, which means the same";
+        changes.tell(place.key(key), what, false);
+    }
+}
+
 // Adds the action under a key, by the name that it is read by, behind the members that the object has.
-fn put_action(text: &mut Text, changes: &mut Changes, place: Place<'_>, object: &Value, key: &str) {
+fn put_action(text: &mut Text, object: &Value, key: &str) {
     if text_at(object, key) != KILL_THREAD {
         return put_member(text, object, key);
     }
-    let what = "SCMP_ACT_KILL_THREAD, and written as SCMP_ACT_KILL, which means the same";
-    changes.tell(place.key(key), what, false);
-    text.separate(", ");
-    text.put(format_args!("\"{key}\": \"{KILL}\""));
+    put_pair(text, key, KILL);
+}
+
+// Tells an error by a name that is not known.
+fn tell_error(changes: &mut Changes, place: Place<'_>, object: &Value, keys: VerdictKeys) {
+    let name = text_at(object, keys.name);
+    if name != "" && error_named(name).is_none() {
+        changes.refuse(place.key(keys.name), "no error that is known");
+    }
 }
 
 // Adds the error of an action. One by its name counts before one by its number, as podman reads it.
-fn put_error(
-    text: &mut Text,
-    changes: &mut Changes,
-    place: Place<'_>,
-    object: &Value,
-    keys: VerdictKeys,
-) {
+fn put_error(text: &mut Text, object: &Value, keys: VerdictKeys) {
     let name = text_at(object, keys.name);
     if name == "" {
         return put_member(text, object, keys.number);
     }
-    let Some(number) = error_named(name) else {
-        return changes.refuse(place.key(keys.name), "no error that is known");
-    };
-    let key = keys.number;
-    text.separate(", ");
-    text.put(format_args!("\"{key}\": {number}"));
+    if let Some(number) = error_named(name) {
+        put_pair(text, keys.number, number);
+    }
 }
 
-/// Adds an action and its error, or that the call is logged where refusals are to be.
-pub(crate) fn put_verdict(
-    text: &mut Text,
+// Whether an action is logged in place of done.
+fn is_logged(settings: &Settings<'_>, action: &str) -> bool {
+    settings.wanted.logs && refuses(action)
+}
+
+/// Tells what changes of an action and its error.
+pub(crate) fn tell_verdict(
     changes: &mut Changes,
     settings: &Settings<'_>,
     place: Place<'_>,
@@ -71,12 +84,24 @@ pub(crate) fn put_verdict(
     keys: VerdictKeys,
 ) {
     let action = text_at(object, keys.action);
-    if settings.wanted.logs && refuses(action) {
-        let key = keys.action;
-        changes.tell_text(place.key(key), action, "is written as SCMP_ACT_LOG", false);
-        text.separate(", ");
-        return text.put(format_args!("\"{key}\": \"SCMP_ACT_LOG\""));
+    if is_logged(settings, action) {
+        let what = "is written as SCMP_ACT_LOG";
+        return changes.tell_text(place.key(keys.action), action, what, false);
     }
-    put_action(text, changes, place, object, keys.action);
-    put_error(text, changes, place, object, keys);
+    tell_action(changes, place, object, keys.action);
+    tell_error(changes, place, object, keys);
+}
+
+/// Adds an action and its error, or that the call is logged where refusals are to be.
+pub(crate) fn put_verdict(
+    text: &mut Text,
+    settings: &Settings<'_>,
+    object: &Value,
+    keys: VerdictKeys,
+) {
+    if is_logged(settings, text_at(object, keys.action)) {
+        return put_pair(text, keys.action, LOG);
+    }
+    put_action(text, object, keys.action);
+    put_error(text, object, keys);
 }

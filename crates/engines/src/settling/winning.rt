@@ -131,10 +131,9 @@ fn told_place(rules: &[Rule], place: usize, winner: usize) -> usize {
     let Some(other) = rules.get(winner) else {
         return place;
     };
-    if rules.get(place).map(|rule| rule.word) == Some(other.word) {
-        place
-    } else {
-        winner
+    match rules.get(place) {
+        Some(rule) if rule.word == other.word => place,
+        _ => winner,
     }
 }
 
