@@ -11,7 +11,7 @@ from guests.section import content_of
 
 RUNTIMES = {"crun": "crun --cgroup-manager=disabled", "runc": "runc"}
 # What a system without a package manager has: the folders that packages share, and those that are mounted.
-LINKS, MOUNTED = ("bin", "lib", "sbin"), ("proc", "sys", "dev", "tmp", "run", "box/rootfs/bin", "box/rootfs/proc", "box/rootfs/dev")
+LINKS, MOUNTED = ("bin", "lib", "lib64", "sbin"), ("proc", "sys", "dev", "tmp", "run", "box/rootfs/bin", "box/rootfs/proc", "box/rootfs/dev")
 # What of the packages no guest needs.
 LEFT_OUT = ("doc", "man", "locale", "gconv", "bash-completion")
 # Docker's of a container without options, but for what no container of this test needs.
