@@ -1,5 +1,5 @@
 """crun and runc of Debian on a real kernel, with Debian's own libseccomp: the filter of a container is read back there and judged on this
-machine, as an operator does it (docs/ENGINES.md, "Nodes of other machines")."""
+machine, as an operator does it (docs/ENGINES.md, "Nodes of arm64, riscv64 and ppc64le")."""
 import os
 import subprocess
 

@@ -100,6 +100,7 @@ def loaded_by(guest, name, section):
     """The bytes of the filter of a container that a runtime starts, also as `loaded` in the guest's folder, and what was told on the way."""
     runtime, loaded = f"chroot /system {RUNTIMES[name]}", f"{guest.share}/loaded"
     put_config(guest, section, ["/bin/sleep", "1000"])
-    out, _ = guest.run(f"rm -f /host/loaded; {runtime} run -d --pid-file /pid -b /box {name}-b </dev/null >/dev/null && {{ {under_filter(PID)}; "
-                       f"/host/dump {PID} >/host/loaded; }}; {runtime} kill {name}-b KILL; sleep 1; {runtime} delete -f {name}-b")
+    read_back = f"{under_filter(PID)}; /host/dump {PID} >/host/loaded"
+    out, _ = guest.run(f"rm -f /host/loaded; {runtime} run -d --pid-file /pid -b /box {name}-b </dev/null >/dev/null && {{ {read_back}; }}; "
+                       f"{runtime} kill {name}-b KILL; sleep 1; {runtime} delete -f {name}-b")
     return content_of(loaded) if os.path.exists(loaded) else b"", out
