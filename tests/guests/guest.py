@@ -65,6 +65,11 @@ def write_first(folder):
     carried_out(["sh", "-c", "find . | cpio --quiet -o -H newc | gzip -1 > ../first.gz"], cwd=root)
 
 
+def under_filter(pid):
+    """The command that waits until a process has a filter, which takes an emulator its time."""
+    return f"for _ in $(seq 120); do grep -q '^Seccomp:.2' /proc/{pid}/status && break; sleep 1; done"
+
+
 class Guest:
     """A guest that runs until it is stopped."""
 
@@ -87,7 +92,7 @@ class Guest:
             "-device", f"virtio-9p-{bus},fsdev=h,mount_tag=host",
         ]
 
-    def boot(self, seconds=600):
+    def boot(self, seconds=ENDLESS):
         """Boots it, and returns once it takes commands."""
         log = f"{self.folder}/console"
         with open(log, "wb") as file:

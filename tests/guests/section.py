@@ -4,6 +4,7 @@ import glob
 import subprocess
 from dataclasses import dataclass
 
+from guests.guest import under_filter
 from guests.packages import unpack_files
 from harness.asked import record
 from harness.limits import ENDLESS
@@ -62,6 +63,12 @@ def written(words, path):
     with open(path, "wb") as file:
         file.write(ran.stdout)
     return ran.stdout
+
+
+def content_of(path):
+    """The bytes of a file."""
+    with open(path, "rb") as file:
+        return file.read()
 
 
 def profile_of_docker(packages, folder):
@@ -136,9 +143,8 @@ def build_tools(compiler, share):
 def try_read_back(guest, tally, filters):
     """Loads each filter, and compares its bytes with those that the kernel shows."""
     for name, filtered in filters.items():
-        out, status = guest.run(f"cd /host; ./under {name}.bpf /bin/sleep 60 & sleep 2; ./dump $! >loaded; kill -9 $!")
-        with open(f"{guest.share}/loaded", "rb") as file:
-            loaded = file.read()
+        out, status = guest.run(f"cd /host; ./under {name}.bpf /bin/sleep 600 & {under_filter('$!')}; ./dump $! >loaded; kill -9 $!")
+        loaded = content_of(f"{guest.share}/loaded")
         tally.count(loaded == filtered, lambda: f"read back, {name}: {len(loaded)} bytes of {len(filtered)}, status {status}: {out[-200:]}")
 
 
