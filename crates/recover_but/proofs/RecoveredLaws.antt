@@ -1,5 +1,5 @@
 -- A filter that was judged to be right but for calls is one of which a bundle was made.
-use Rattle.std.proofs.Common.{◌≡◌, ◌≢◌, ◌⊎◌, ℕ, List, [], ◌∷◌, inl, inr, refl, subst, sym}
+use Rattle.std.proofs.Common.{◌≡◌, ℕ, List, [], ◌∷◌, inl, inr, refl, subst}
 use Rattle.std.specs.Prelude.{Bool, true, false, Result, Ok, Err}
 use Rattle.bpf_insn.specs.Bytes.{insns_of}
 use Rattle.call_tables.specs.declared.arch.Arch.{Arch}

@@ -1,5 +1,5 @@
 -- What a bundle is that was made of a filter, where calls may be left aside, and what is told of these.
-use Rattle.std.specs.Prelude.{ℕ, ◌≡◌, ◌-◌, ◌==◌, ◌++◌, if◌then◌else◌, Bool, true, false, List, [], length, codes}
+use Rattle.std.specs.Prelude.{ℕ, ◌≡◌, ◌-◌, ◌==◌, ◌++◌, if◌then◌else◌, Bool, false, List, [], length, codes}
 use Rattle.std.specs.Prelude.{Result, Ok, Err}
 use Rattle.std.specs.List.{flat_map}
 use Rattle.call_tables.specs.declared.arch.Arch.{Arch}
