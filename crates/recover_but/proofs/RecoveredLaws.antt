@@ -1,10 +1,11 @@
 -- A filter that was judged to be right but for calls is one of which a bundle was made.
-use Rattle.std.proofs.Common.{◌≡◌, ◌≢◌, ◌⊎◌, ℕ, List, [], ◌∷◌, inl, inr, refl, subst, sym}
-use Rattle.std.specs.Prelude.{Bool, true, false, Result, Ok}
+use Rattle.std.proofs.Common.{◌≡◌, ℕ, List, [], ◌∷◌, inl, inr, refl, subst}
+use Rattle.std.specs.Prelude.{Bool, true, false, Result, Ok, Err}
 use Rattle.bpf_insn.specs.Bytes.{insns_of}
 use Rattle.call_tables.specs.declared.arch.Arch.{Arch}
+use Rattle.call_tables.specs.declared.arch.Family.{Family}
 use Rattle.maker.specs.declared.evidence.evidence.Evidence.{Evidence}
-use Rattle.maker.specs.declared.evidence.evidence.Evidence.TheVariants.{Certificate}
+use Rattle.maker.specs.declared.evidence.evidence.Evidence.TheVariants.{Certificate, Convicting}
 use Rattle.maker.specs.declared.unready.Unready.{Unready}
 use Rattle.profile.specs.Policy.{Policy}
 use Rattle.compare.specs.declared.behind_runc.stub.calls.Calls.{Calls}
@@ -14,7 +15,7 @@ use Rattle.compare.proofs.WriteLaws.{means_right, whole_is_right}
 use Rattle.aside.specs.declared.leave.Leave.{Leave}
 use Rattle.aside.specs.Aside.{IsRightBut}
 use Rattle.aside.specs.Judged.{IsJudged, MeansRightBut, stub_calls}
-use Rattle.recover_but.specs.RecoveredBut.{IsRecoveredBut}
+use Rattle.recover_but.specs.RecoveredBut.{IsCertified, IsRecoveredBut, lines_of}
 
 -- the filter is accepted if what stands behind its stub is
 pub accepted_too : (filter rest : List ℕ) (answered : List Calls) → IsBehind filter rest answered → AreAccepted rest → AreAccepted filter
@@ -55,9 +56,17 @@ module _ (native : Arch) (bundle filter rest : List ℕ) (answered : List Calls)
       right = is.but (λ e. cc);
     }
 
-    pub recovered_by : (aside : List Calls) (whole : Bool) (evidence : Evidence) (bytes : _) → evidence ≡ Certificate bytes
-        → IsJudged native bundle filter rest answered leave aside whole (Ok evidence)
+    pub recovered_by : (aside : List Calls) (whole : Bool) (judged : Result Evidence Unready) → IsCertified judged
+        → IsJudged native bundle filter rest answered leave aside whole judged
         → IsRecoveredBut native bundle filter leave (stub_calls whole answered) aside
-    recovered_by aside whole evidence bytes same is =
-        of_certificate aside whole bytes
-        (subst (λ (e : Evidence). IsJudged native bundle filter rest answered leave aside whole (Ok e)) same is)
+    recovered_by aside whole (Ok (Certificate bytes)) certified is = of_certificate aside whole bytes is
+    recovered_by aside whole (Ok (Convicting found)) certified is = absurd certified
+    recovered_by aside whole (Err e) certified is = absurd certified
+
+-- what is told of calls is told by the family of the machine
+pub lines_told : (family named : Family) → family ≡ named → (runc : Bool) (size : ℕ) (answered : List Calls) (whole : Bool)
+    (aside left : List Calls) → left ≡ aside → (lines : List ℕ) → lines ≡ lines_of family runc size answered whole left
+    → lines ≡ lines_of named runc size answered whole aside
+lines_told family named same runc size answered whole aside left is lines told =
+    subst (λ (f : Family). lines ≡ lines_of f runc size answered whole aside) same
+    (subst (λ (calls : List Calls). lines ≡ lines_of family runc size answered whole calls) is told)

@@ -1,9 +1,13 @@
 -- What a bundle is that was made of a filter, where calls may be left aside, and what is told of these.
-use Rattle.std.specs.Prelude.{ℕ, ◌≡◌, ◌-◌, ◌==◌, ◌++◌, if◌then◌else◌, Bool, true, false, List, [], length, codes}
+use Rattle.std.specs.Prelude.{ℕ, ◌≡◌, ◌-◌, ◌==◌, ◌++◌, if◌then◌else◌, Bool, false, List, [], length, codes}
+use Rattle.std.specs.Prelude.{Result, Ok, Err}
 use Rattle.std.specs.List.{flat_map}
 use Rattle.call_tables.specs.declared.arch.Arch.{Arch}
 use Rattle.call_tables.specs.declared.arch.Family.{Family}
 use Rattle.call_tables.specs.Arch.{family_of}
+use Rattle.maker.specs.evidence.Conviction.{IsCertificate}
+use Rattle.maker.specs.declared.evidence.evidence.Evidence.{Evidence}
+use Rattle.maker.specs.declared.unready.Unready.{Unready}
 use Rattle.compare.specs.declared.behind_runc.stub.calls.Calls.{Calls}
 use Rattle.compare.specs.Behind.{AreAccepted, IsBehind}
 use Rattle.compare.specs.StubTold.{calls_line, stub_text}
@@ -17,10 +21,18 @@ pub record IsRecoveredBut (native : Arch) (bundle filter : List ℕ) (leave : Le
   pub left : AreLeftOut native bundle filter leave aside
   pub right : MeansRightBut native bundle filter answered aside
 
--- a line, and the lines of the calls that are left aside, if there are any
+-- what was judged is a certificate
+abbrev pub IsCertified : Result Evidence Unready → Type 0
+IsCertified (Ok evidence) = IsCertificate evidence
+IsCertified (Err e) = ⊥
+
+-- a line, and the lines of the calls that are left aside
+abbrev pub but_text : Family → List Calls → List ℕ
+but_text family aside = codes "this section is the filter's but for these calls:\n" ++ flat_map (calls_line family) aside
+
+-- the same, if there are any
 abbrev pub aside_text : Family → List Calls → List ℕ
-aside_text family aside =
-    if length aside == 0 then [] else codes "this section is the filter's but for these calls:\n" ++ flat_map (calls_line family) aside
+aside_text family aside = if length aside == 0 then [] else but_text family aside
 
 -- the lines on the stub of so many bytes, if it was asked for, and on the calls that are left aside
 abbrev pub lines_of : Family → Bool → ℕ → List Calls → Bool → List Calls → List ℕ

@@ -1,5 +1,5 @@
 //! What is told of calls for which a section is not.
-ghost use Rattle.std.specs.Prelude.{◌≡◌, ◌-◌, ◌++◌, [], IfOk, false, if◌then◌else◌, length, string_bytes};
+ghost use Rattle.std.specs.Prelude.{◌≡◌, ◌-◌, [], IfOk, false, if◌then◌else◌, length, string_bytes};
 ghost use Rattle.call_tables.specs.Arch.{family_of};
 ghost use Rattle.compare.specs.Behind.{IsBehind};
 ghost use Rattle.compare.specs.StubTold as stub;
@@ -50,22 +50,24 @@ fn stub_lines(
     Ok(String::new(alloc))
 }
 
-// Adds the lines of calls that are left aside, if there are any.
-fn put_aside(
-    alloc: Global,
-    text: &mut String,
-    family: Family,
-    aside: &[Calls],
-) -> Result<(), AllocError>
-    ensures { IfOk result (λ _. string_bytes text.new ≡ string_bytes text.old ++ spec.aside_text family aside.now) }
+// A line, and the lines of the calls that are left aside.
+fn but_text(alloc: Global, family: Family, aside: &[Calls]) -> Result<String, AllocError>
+    ensures { IfOk result (λ text. string_bytes text ≡ spec.but_text family aside.now) }
+{
+    let lines = calls_text(alloc, family, aside)?;
+    let mut text = String::from_str(alloc, "this section is the filter's but for these calls:\n")?;
+    text.push_str(&lines)?;
+    Ok(text)
+}
+
+// The same, if there are any.
+fn aside_text(alloc: Global, family: Family, aside: &[Calls]) -> Result<String, AllocError>
+    ensures { IfOk result (λ text. string_bytes text ≡ spec.aside_text family aside.now) }
 {
     if aside.is_empty() {
-        return Ok(());
+        return Ok(String::new(alloc));
     }
-    let lines = calls_text(alloc, family, aside)?;
-    text.push_str("this section is the filter's but for these calls:\n")?;
-    text.push_str(&lines)?;
-    Ok(())
+    but_text(alloc, family, aside)
 }
 
 // The lines on the stub, if it was asked for, and on the calls that are left aside.
@@ -82,8 +84,9 @@ fn lines_of(
         behind.now.answered.items whole aside.now) }
 {
     let size = filter.len().saturating_sub(behind.rest.len());
+    let left = aside_text(alloc, family, aside)?;
     let mut text = stub_lines(alloc, family, size, &behind.answered, whole, runc)?;
-    put_aside(alloc, &mut text, family, aside)?;
+    text.push_str(&left)?;
     Ok(text)
 }
 
@@ -99,11 +102,15 @@ pub fn recover_told(
     ensures { IfOk result (λ made. spec.IsToldBut native filter.now runc leave (string_bytes made.bundle) (string_bytes made.lines)) }
 {
     let behind = behind_of(alloc, filter, runc)?;
-    let Found {
-        bundle,
-        aside,
-        whole,
-    } = recover_but(alloc, native, filter, &behind, leave)?;
-    let lines = lines_of(alloc, native.family(), filter, &behind, whole, runc, &aside)?;
+    let Found { bundle, but } = recover_but(alloc, native, filter, &behind, leave)?;
+    let lines = lines_of(
+        alloc,
+        native.family(),
+        filter,
+        &behind,
+        but.judged.whole,
+        runc,
+        &but.aside,
+    )?;
     Ok(RecoveredBut { bundle, lines })
 }
