@@ -1,5 +1,5 @@
 -- What is written of the bytes that are read of files is so of the files' own.
-use Rattle.std.proofs.Common.{◌≡◌, ◌⊎◌, ℕ, ◌-◌, inl, inr, List, [], ap, length, refl, subst, sym, ◌∙◌, arith}
+use Rattle.std.proofs.Common.{◌≡◌, ◌⊎◌, ℕ, ◌-◌, inl, inr, List, [], ap, length, refl, subst, sym, ◌∙◌, arith, codes}
 use Rattle.std.specs.Prelude.{◌≢◌, Bool, true, false, Option, None, Result, Ok, Err, slice_index_or}
 use Rattle.bpf_insn.specs.Bytes.{view_fault}
 use Rattle.bpf_insn.specs.declared.fault.ViewError.TheVariants.{NotMultipleOf8}
