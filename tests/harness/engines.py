@@ -78,7 +78,10 @@ class Docker:
         """Ends the daemons, dockerd first."""
         for daemon in reversed(self.daemons):
             daemon.terminate()
-            daemon.wait(30)
+            try:
+                daemon.wait(30)
+            except subprocess.TimeoutExpired:
+                daemon.kill()
 
 
 @contextlib.contextmanager
