@@ -3,10 +3,10 @@ use Rattle.std.proofs.Common.{◌≡◌, ◌^◌, ◌<◌, List, [], ◌∷◌, 
 use Rattle.std.specs.Bool.{Decides}
 use Rattle.std.proofs.lemmas.Bool.Decides.{Decides-eqb, Decides-like}
 use Rattle.call_tables.specs.declared.arch.Arch.{Arch}
-use Rattle.call_tables.specs.declared.arch.Arch.TheVariants.{X86_64, Aarch64, LinuxX86_64, LinuxX86, LinuxX32, LinuxAarch64, LinuxArm, LinuxRiscv64, LinuxPpc64le, LinuxLoongarch64}
+use Rattle.call_tables.specs.declared.arch.Arch.TheVariants.{X86_64, Aarch64, LinuxX86_64, LinuxX86, LinuxX32, LinuxAarch64, LinuxArm, LinuxRiscv64, LinuxPpc64le, LinuxLoongarch64, LinuxS390x, LinuxS390}
 use Rattle.call_tables.specs.Table.{IsInverse}
 use Rattle.call_tables.specs.Machines.{x86_64_table, aarch64_table, linux_x86_64_table, linux_x86_table, linux_x32_table}
-use Rattle.call_tables.specs.Machines.{linux_aarch64_table, linux_arm_table, linux_riscv64_table, linux_ppc64le_table, linux_loongarch64_table}
+use Rattle.call_tables.specs.Machines.{linux_aarch64_table, linux_arm_table, linux_riscv64_table, linux_ppc64le_table, linux_loongarch64_table, linux_s390x_table, linux_s390_table}
 use Rattle.call_tables.specs.Arch.{token_of, table_of, place_of, same_arch}
 use Rattle.call_tables.proofs.TableLaws.{one_to_one-inverse}
 use Rattle.call_tables.specs.inner.WholeTables as whole
@@ -30,6 +30,8 @@ table_of-inverse LinuxArm = one_to_one-inverse linux_arm_table whole.linux_arm-o
 table_of-inverse LinuxRiscv64 = one_to_one-inverse linux_riscv64_table whole.linux_riscv64-one_to_one
 table_of-inverse LinuxPpc64le = one_to_one-inverse linux_ppc64le_table whole.linux_ppc64le-one_to_one
 table_of-inverse LinuxLoongarch64 = one_to_one-inverse linux_loongarch64_table whole.linux_loongarch64-one_to_one
+table_of-inverse LinuxS390x = one_to_one-inverse linux_s390x_table whole.linux_s390x-one_to_one
+table_of-inverse LinuxS390 = one_to_one-inverse linux_s390_table whole.linux_s390-one_to_one
 
 pub token_of-fits : (arch : Arch) → token_of arch < 2 ^ 32
 token_of-fits X86_64 = omega arith
@@ -42,12 +44,15 @@ token_of-fits LinuxArm = omega arith
 token_of-fits LinuxRiscv64 = omega arith
 token_of-fits LinuxPpc64le = omega arith
 token_of-fits LinuxLoongarch64 = omega arith
+token_of-fits LinuxS390x = omega arith
+token_of-fits LinuxS390 = omega arith
 
 -- ---- machines are told apart by their places
 
 all : List Arch
 all =
-    X86_64 ∷ Aarch64 ∷ LinuxX86_64 ∷ LinuxX32 ∷ LinuxX86 ∷ LinuxAarch64 ∷ LinuxArm ∷ LinuxRiscv64 ∷ LinuxPpc64le ∷ LinuxLoongarch64 ∷ []
+    X86_64 ∷ Aarch64 ∷ LinuxX86_64 ∷ LinuxX32 ∷ LinuxX86 ∷ LinuxAarch64 ∷ LinuxArm ∷ LinuxRiscv64 ∷ LinuxPpc64le ∷ LinuxLoongarch64
+    ∷ LinuxS390x ∷ LinuxS390 ∷ []
 
 at_place : (a : Arch) → get_or all (place_of a) X86_64 ≡ a
 unfolding all
@@ -61,6 +66,8 @@ at_place LinuxArm = refl
 at_place LinuxRiscv64 = refl
 at_place LinuxPpc64le = refl
 at_place LinuxLoongarch64 = refl
+at_place LinuxS390x = refl
+at_place LinuxS390 = refl
 
 pub Decides-same_arch : (a b : Arch) → Decides (same_arch a b) (a ≡ b)
 Decides-same_arch a b =

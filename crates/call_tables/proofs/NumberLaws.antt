@@ -3,7 +3,7 @@ use Rattle.std.proofs.Common.{◌≡◌, ℕ, zero, suc, ◌^◌, ◌<◌, ◌�
 use Rattle.std.specs.List.{Any}
 use Rattle.std.proofs.lemmas.Bool.{cases_lt}
 use Rattle.call_tables.specs.declared.arch.Arch.{Arch}
-use Rattle.call_tables.specs.declared.arch.Arch.TheVariants.{X86_64, Aarch64, LinuxX86_64, LinuxX86, LinuxX32, LinuxAarch64, LinuxArm, LinuxRiscv64, LinuxPpc64le, LinuxLoongarch64}
+use Rattle.call_tables.specs.declared.arch.Arch.TheVariants.{X86_64, Aarch64, LinuxX86_64, LinuxX86, LinuxX32, LinuxAarch64, LinuxArm, LinuxRiscv64, LinuxPpc64le, LinuxLoongarch64, LinuxS390x, LinuxS390}
 use Rattle.call_tables.specs.declared.numbers.Numbers.{Numbers}
 use Rattle.call_tables.specs.Arch.{token_of, family_of, same_arch}
 use Rattle.call_tables.specs.Numbers.{from_to, own_numbers, other_numbers, IsWithin, IsOwn, IsOther}
@@ -98,6 +98,8 @@ own_or_other LinuxArm nr small = inl (in_all nr small)
 own_or_other LinuxRiscv64 nr small = inl (in_all nr small)
 own_or_other LinuxPpc64le nr small = inl (in_all nr small)
 own_or_other LinuxLoongarch64 nr small = inl (in_all nr small)
+own_or_other LinuxS390x nr small = inl (in_all nr small)
+own_or_other LinuxS390 nr small = inl (in_all nr small)
 
 pub own_not_other : (arch : Arch) (nr : ℕ) → IsOwn arch nr → IsOther arch nr → ⊥
 own_not_other X86_64 nr own other = low_not_high nr own other
@@ -110,6 +112,8 @@ own_not_other LinuxArm nr own other = none nr other
 own_not_other LinuxRiscv64 nr own other = none nr other
 own_not_other LinuxPpc64le nr own other = none nr other
 own_not_other LinuxLoongarch64 nr own other = none nr other
+own_not_other LinuxS390x nr own other = none nr other
+own_not_other LinuxS390 nr own other = none nr other
 
 -- where there are no others, each number is the machine's own
 pub all_own : (arch : Arch) (nr : ℕ) → other_numbers arch ≡ [] → nr < 2 ^ 32 → IsOwn arch nr

@@ -8,11 +8,11 @@ use Rattle.std.proofs.lemmas.Bool.Decides.{nat_tests}
 use Rattle.std.proofs.lemmas.List.Folds.{Any-from_list_any}
 use Rattle.std.proofs.lemmas.Option.{same_Some}
 use Rattle.call_tables.specs.declared.arch.Arch.{Arch}
-use Rattle.call_tables.specs.declared.arch.Arch.TheVariants.{X86_64, Aarch64, LinuxX86_64, LinuxX86, LinuxX32, LinuxAarch64, LinuxArm, LinuxRiscv64, LinuxPpc64le, LinuxLoongarch64}
+use Rattle.call_tables.specs.declared.arch.Arch.TheVariants.{X86_64, Aarch64, LinuxX86_64, LinuxX86, LinuxX32, LinuxAarch64, LinuxArm, LinuxRiscv64, LinuxPpc64le, LinuxLoongarch64, LinuxS390x, LinuxS390}
 use Rattle.call_tables.specs.declared.numbers.Numbers.{Numbers}
 use Rattle.call_tables.specs.Table.{Table, number_in}
 use Rattle.call_tables.specs.Machines.{first_rows, second_rows, third_rows, fourth_rows, x86_64_table, aarch64_table}
-use Rattle.call_tables.specs.Machines.{linux_x86_64_table, linux_x86_table, linux_x32_table, linux_aarch64_table, linux_arm_table, linux_riscv64_table, linux_ppc64le_table, linux_loongarch64_table}
+use Rattle.call_tables.specs.Machines.{linux_x86_64_table, linux_x86_table, linux_x32_table, linux_aarch64_table, linux_arm_table, linux_riscv64_table, linux_ppc64le_table, linux_loongarch64_table, linux_s390x_table, linux_s390_table}
 use Rattle.call_tables.specs.Arch.{table_of}
 use Rattle.call_tables.specs.Numbers.{own_numbers, IsWithin, IsOwn, is_within}
 use Rattle.call_tables.proofs.TableLaws.{number_here, number_past}
@@ -60,6 +60,14 @@ linux_loongarch64-own : are_own LinuxLoongarch64 linux_loongarch64_table ≡ tru
 unfolding linux_loongarch64_table first_rows second_rows third_rows fourth_rows
 linux_loongarch64-own = refl
 
+linux_s390x-own : are_own LinuxS390x linux_s390x_table ≡ true
+unfolding linux_s390x_table first_rows second_rows third_rows fourth_rows
+linux_s390x-own = refl
+
+linux_s390-own : are_own LinuxS390 linux_s390_table ≡ true
+unfolding linux_s390_table first_rows second_rows third_rows fourth_rows
+linux_s390-own = refl
+
 within : (nr : ℕ) (numbers : Numbers) → is_within nr numbers ≡ true → IsWithin nr numbers
 within nr numbers h =
     let parts = and_parts (nat_le numbers.first nr) (nat_le nr numbers.last) h in
@@ -92,3 +100,5 @@ table_of-own LinuxArm name nr = found LinuxArm linux_arm_table name nr linux_arm
 table_of-own LinuxRiscv64 name nr = found LinuxRiscv64 linux_riscv64_table name nr linux_riscv64-own
 table_of-own LinuxPpc64le name nr = found LinuxPpc64le linux_ppc64le_table name nr linux_ppc64le-own
 table_of-own LinuxLoongarch64 name nr = found LinuxLoongarch64 linux_loongarch64_table name nr linux_loongarch64-own
+table_of-own LinuxS390x name nr = found LinuxS390x linux_s390x_table name nr linux_s390x-own
+table_of-own LinuxS390 name nr = found LinuxS390 linux_s390_table name nr linux_s390-own

@@ -35,6 +35,14 @@ ppc64le_token = 0xc0000015
 abbrev pub loongarch64_token : ℕ
 loongarch64_token = 0xc0000102
 
+-- AUDIT_ARCH_S390X
+abbrev pub s390x_token : ℕ
+s390x_token = 0x80000016
+
+-- AUDIT_ARCH_S390
+abbrev pub s390_token : ℕ
+s390_token = 0x16
+
 abbrev pub x86_64_scmp : List ℕ
 x86_64_scmp = codes "SCMP_ARCH_X86_64"
 
@@ -59,6 +67,12 @@ ppc64le_scmp = codes "SCMP_ARCH_PPC64LE"
 abbrev pub loongarch64_scmp : List ℕ
 loongarch64_scmp = codes "SCMP_ARCH_LOONGARCH64"
 
+abbrev pub s390x_scmp : List ℕ
+s390x_scmp = codes "SCMP_ARCH_S390X"
+
+abbrev pub s390_scmp : List ℕ
+s390_scmp = codes "SCMP_ARCH_S390"
+
 -- ---- the chosen lists
 
 unfoldable pub x86_64_table : Table
@@ -67,7 +81,8 @@ x86_64_table = map (λ e. (e.0.now, e.1)) X86_64_CALLS.now
 unfoldable pub aarch64_table : Table
 aarch64_table = map (λ e. (e.0.now, e.1)) AARCH64_CALLS.now
 
--- ---- all calls of Linux, in the columns x86-64, x86, x32, AArch64, ARM, riscv64, ppc64le and loongarch64
+-- ---- all calls of Linux, in the columns x86-64, x86, x32, AArch64, ARM, riscv64, ppc64le, loongarch64,
+-- s390x and s390
 
 unfoldable pub first_rows : Rows
 first_rows = map (λ e. (e.0.now, e.1)) FIRST_CALLS.now
@@ -107,3 +122,9 @@ linux_ppc64le_table = column_of 6 linux_rows
 
 unfoldable pub linux_loongarch64_table : Table
 linux_loongarch64_table = column_of 7 linux_rows
+
+unfoldable pub linux_s390x_table : Table
+linux_s390x_table = column_of 8 linux_rows
+
+unfoldable pub linux_s390_table : Table
+linux_s390_table = column_of 9 linux_rows

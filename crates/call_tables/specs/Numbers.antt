@@ -5,7 +5,7 @@ use Rattle.std.specs.Prelude.{◌≡◌, ℕ, ◌≤◌, ◌==◌, ◌&&◌, not
 use Rattle.std.specs.List.{Any, list_any}
 use Rattle.call_tables.specs.declared.arch.Arch.{Arch}
 use Rattle.call_tables.specs.declared.arch.Arch.TheVariants.{X86_64, Aarch64, LinuxX86_64, LinuxX86, LinuxX32}
-use Rattle.call_tables.specs.declared.arch.Arch.TheVariants.{LinuxAarch64, LinuxArm, LinuxRiscv64, LinuxPpc64le, LinuxLoongarch64}
+use Rattle.call_tables.specs.declared.arch.Arch.TheVariants.{LinuxAarch64, LinuxArm, LinuxRiscv64, LinuxPpc64le, LinuxLoongarch64, LinuxS390x, LinuxS390}
 use Rattle.call_tables.specs.declared.numbers.Numbers.{Numbers}
 use Rattle.call_tables.specs.Arch.{token_of, family_of, same_arch, same_family}
 
@@ -24,6 +24,8 @@ own_numbers LinuxArm = from_to 0 0xffffffff ∷ []
 own_numbers LinuxRiscv64 = from_to 0 0xffffffff ∷ []
 own_numbers LinuxPpc64le = from_to 0 0xffffffff ∷ []
 own_numbers LinuxLoongarch64 = from_to 0 0xffffffff ∷ []
+own_numbers LinuxS390x = from_to 0 0xffffffff ∷ []
+own_numbers LinuxS390 = from_to 0 0xffffffff ∷ []
 
 -- all others
 abbrev pub other_numbers : Arch → List Numbers
@@ -37,6 +39,8 @@ other_numbers LinuxArm = []
 other_numbers LinuxRiscv64 = []
 other_numbers LinuxPpc64le = []
 other_numbers LinuxLoongarch64 = []
+other_numbers LinuxS390x = []
+other_numbers LinuxS390 = []
 
 abbrev pub IsWithin : ℕ → Numbers → Type 0
 IsWithin nr numbers = (numbers.first ≤ nr) × (nr ≤ numbers.last)

@@ -4,8 +4,8 @@ ghost use Rattle.call_tables.specs.Table.{number_in, name_in, IsInverse};
 ghost use Rattle.call_tables.specs.Arch.{table_of};
 
 use crate::machines::{
-    Aarch64, LinuxAarch64, LinuxArm, LinuxLoongarch64, LinuxPpc64le, LinuxRiscv64, LinuxX32,
-    LinuxX86, LinuxX86_64, Machine, X86_64,
+    Aarch64, LinuxAarch64, LinuxArm, LinuxLoongarch64, LinuxPpc64le, LinuxRiscv64, LinuxS390,
+    LinuxS390x, LinuxX32, LinuxX86, LinuxX86_64, Machine, X86_64,
 };
 use crate::numbers::{
     ALL, ARM_CALLS, BELOW_X32, CALLS, FROM_X32, LINUX_X32, LINUX_X86_64, Numbers, X32_CALLS,
@@ -24,6 +24,8 @@ pub enum Arch {
     LinuxRiscv64,
     LinuxPpc64le,
     LinuxLoongarch64,
+    LinuxS390x,
+    LinuxS390,
 }
 
 /// What machines share that may stand in one profile: the extent of their tables.
@@ -53,6 +55,8 @@ impl Family {
                 Arch::LinuxRiscv64,
                 Arch::LinuxPpc64le,
                 Arch::LinuxLoongarch64,
+                Arch::LinuxS390x,
+                Arch::LinuxS390,
             ],
         }
     }
@@ -67,11 +71,11 @@ impl Default for Arch {
 
 impl Arch {
     ghost use Rattle.std.specs.Prelude.{◌↔◌, IsTrue};
-    ghost use Rattle.call_tables.specs.Arch.{table_of, token_of, scmp_of, machine_name, machine_called, native_called, family_of};
+    ghost use Rattle.call_tables.specs.Arch.{table_of, token_of, is_big_endian, scmp_of, machine_name, machine_called, native_called, family_of};
     ghost use Rattle.call_tables.specs.Numbers.{own_numbers, other_numbers, IsOwn};
 
     /// All machines, family by family, in the order in which lists of machines name them.
-    pub const ALL: [Arch; 10] = [
+    pub const ALL: [Arch; 12] = [
         Arch::X86_64,
         Arch::Aarch64,
         Arch::LinuxX86_64,
@@ -82,6 +86,8 @@ impl Arch {
         Arch::LinuxRiscv64,
         Arch::LinuxPpc64le,
         Arch::LinuxLoongarch64,
+        Arch::LinuxS390x,
+        Arch::LinuxS390,
     ];
 
     /// Which tables the machine's is one of.
@@ -97,7 +103,9 @@ impl Arch {
             | Arch::LinuxArm
             | Arch::LinuxRiscv64
             | Arch::LinuxPpc64le
-            | Arch::LinuxLoongarch64 => Family::Whole,
+            | Arch::LinuxLoongarch64
+            | Arch::LinuxS390x
+            | Arch::LinuxS390 => Family::Whole,
         }
     }
 
@@ -116,6 +124,28 @@ impl Arch {
             Arch::LinuxRiscv64 => LinuxRiscv64::TOKEN,
             Arch::LinuxPpc64le => LinuxPpc64le::TOKEN,
             Arch::LinuxLoongarch64 => LinuxLoongarch64::TOKEN,
+            Arch::LinuxS390x => LinuxS390x::TOKEN,
+            Arch::LinuxS390 => LinuxS390::TOKEN,
+        }
+    }
+
+    /// Whether the machine's kernel stores the upper half of a number before the lower one: in call records, and in
+    /// instructions of filters.
+    pub fn is_big_endian(self) -> bool
+        ensures { result ≡ is_big_endian self }
+    {
+        match self {
+            Arch::LinuxS390x | Arch::LinuxS390 => true,
+            Arch::X86_64
+            | Arch::Aarch64
+            | Arch::LinuxX86_64
+            | Arch::LinuxX86
+            | Arch::LinuxX32
+            | Arch::LinuxAarch64
+            | Arch::LinuxArm
+            | Arch::LinuxRiscv64
+            | Arch::LinuxPpc64le
+            | Arch::LinuxLoongarch64 => false,
         }
     }
 
@@ -134,7 +164,9 @@ impl Arch {
             | Arch::LinuxArm
             | Arch::LinuxRiscv64
             | Arch::LinuxPpc64le
-            | Arch::LinuxLoongarch64 => ALL,
+            | Arch::LinuxLoongarch64
+            | Arch::LinuxS390x
+            | Arch::LinuxS390 => ALL,
         }
     }
 
@@ -152,7 +184,9 @@ impl Arch {
             | Arch::LinuxArm
             | Arch::LinuxRiscv64
             | Arch::LinuxPpc64le
-            | Arch::LinuxLoongarch64 => &[],
+            | Arch::LinuxLoongarch64
+            | Arch::LinuxS390x
+            | Arch::LinuxS390 => &[],
         }
     }
 
@@ -180,6 +214,8 @@ impl Arch {
             Arch::LinuxRiscv64 => LinuxRiscv64::SCMP,
             Arch::LinuxPpc64le => LinuxPpc64le::SCMP,
             Arch::LinuxLoongarch64 => LinuxLoongarch64::SCMP,
+            Arch::LinuxS390x => LinuxS390x::SCMP,
+            Arch::LinuxS390 => LinuxS390::SCMP,
         }
     }
 
@@ -198,11 +234,13 @@ impl Arch {
             Arch::LinuxRiscv64 => "linux-riscv64",
             Arch::LinuxPpc64le => "linux-ppc64le",
             Arch::LinuxLoongarch64 => "linux-loongarch64",
+            Arch::LinuxS390x => "linux-s390x",
+            Arch::LinuxS390 => "linux-s390",
         }
     }
 
     /// The machine with this name, of those that a container may be for: a kernel of x86-64 runs the calls of x86
-    /// and x32, and one of AArch64 those of ARM.
+    /// and x32, one of AArch64 those of ARM, and one of s390x those of s390 (up to Linux 6).
     #[tactic(auto, unfolding(crate::specs::Arch::native_called))]
     pub fn native_called(name: &str) -> Option<Arch>
         ensures { result ≡ native_called name.now }
@@ -228,6 +266,9 @@ impl Arch {
         if name == "linux-loongarch64" {
             return Some(Arch::LinuxLoongarch64);
         }
+        if name == "linux-s390x" {
+            return Some(Arch::LinuxS390x);
+        }
         None
     }
 
@@ -244,6 +285,9 @@ impl Arch {
         }
         if name == "linux-arm" {
             return Some(Arch::LinuxArm);
+        }
+        if name == "linux-s390" {
+            return Some(Arch::LinuxS390);
         }
         Arch::native_called(name)
     }
@@ -263,6 +307,8 @@ impl Arch {
             Arch::LinuxRiscv64 => LinuxRiscv64::number(name),
             Arch::LinuxPpc64le => LinuxPpc64le::number(name),
             Arch::LinuxLoongarch64 => LinuxLoongarch64::number(name),
+            Arch::LinuxS390x => LinuxS390x::number(name),
+            Arch::LinuxS390 => LinuxS390::number(name),
         }
     }
 
@@ -281,6 +327,8 @@ impl Arch {
             Arch::LinuxRiscv64 => LinuxRiscv64::name(number),
             Arch::LinuxPpc64le => LinuxPpc64le::name(number),
             Arch::LinuxLoongarch64 => LinuxLoongarch64::name(number),
+            Arch::LinuxS390x => LinuxS390x::name(number),
+            Arch::LinuxS390 => LinuxS390::name(number),
         }
     }
 
@@ -296,7 +344,9 @@ impl Arch {
             | Arch::LinuxAarch64
             | Arch::LinuxRiscv64
             | Arch::LinuxPpc64le
-            | Arch::LinuxLoongarch64 => CALLS,
+            | Arch::LinuxLoongarch64
+            | Arch::LinuxS390x
+            | Arch::LinuxS390 => CALLS,
         }
     }
 }

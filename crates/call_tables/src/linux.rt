@@ -43,7 +43,7 @@ fn fourth() -> &'static [(&'static str, [u32; MACHINES])]
 
 // The same from the third part on.
 fn number_from_third(column: usize, name: &str) -> Option<u32>
-    requires { column < 8 }
+    requires { column < 10 }
     ensures { result ≡ number_in (column_of column (third_rows ++ fourth_rows)) name.now }
 {
     let found = number_of(third(), column, name);
@@ -55,7 +55,7 @@ fn number_from_third(column: usize, name: &str) -> Option<u32>
 
 // The same from the second part on.
 fn number_from_second(column: usize, name: &str) -> Option<u32>
-    requires { column < 8 }
+    requires { column < 10 }
     ensures { result ≡ number_in (column_of column (second_rows ++ (third_rows ++ fourth_rows))) name.now }
 {
     let found = number_of(second(), column, name);
@@ -67,7 +67,7 @@ fn number_from_second(column: usize, name: &str) -> Option<u32>
 
 /// The number of the name in a column.
 pub(crate) fn linux_number(column: usize, name: &str) -> Option<u32>
-    requires { column < 8 }
+    requires { column < 10 }
     ensures { result ≡ number_in (column_of column (first_rows ++ (second_rows ++ (third_rows ++ fourth_rows)))) name.now }
 {
     let found = number_of(first(), column, name);
@@ -79,7 +79,7 @@ pub(crate) fn linux_number(column: usize, name: &str) -> Option<u32>
 
 // The same from the third part on.
 fn name_from_third(column: usize, number: u32) -> Option<&'static str>
-    requires { column < 8 }
+    requires { column < 10 }
     ensures { option_copied result ≡ name_in (column_of column (third_rows ++ fourth_rows)) number }
 {
     let found = name_of(third(), column, number);
@@ -91,7 +91,7 @@ fn name_from_third(column: usize, number: u32) -> Option<&'static str>
 
 // The same from the second part on.
 fn name_from_second(column: usize, number: u32) -> Option<&'static str>
-    requires { column < 8 }
+    requires { column < 10 }
     ensures { option_copied result ≡ name_in (column_of column (second_rows ++ (third_rows ++ fourth_rows))) number }
 {
     let found = name_of(second(), column, number);
@@ -103,7 +103,7 @@ fn name_from_second(column: usize, number: u32) -> Option<&'static str>
 
 /// The name of the number in a column.
 pub(crate) fn linux_name(column: usize, number: u32) -> Option<&'static str>
-    requires { column < 8 }
+    requires { column < 10 }
     ensures { option_copied result ≡ name_in (column_of column (first_rows ++ (second_rows ++ (third_rows ++ fourth_rows)))) number }
 {
     let found = name_of(first(), column, number);

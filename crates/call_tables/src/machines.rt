@@ -68,6 +68,10 @@ const PPC64LE_TOKEN: u32 = 0xc000_0015;
 
 const LOONGARCH64_TOKEN: u32 = 0xc000_0102;
 
+const S390X_TOKEN: u32 = 0x8000_0016;
+
+const S390_TOKEN: u32 = 0x16;
+
 const X86_64_SCMP: &str = "SCMP_ARCH_X86_64";
 
 const AARCH64_SCMP: &str = "SCMP_ARCH_AARCH64";
@@ -111,6 +115,14 @@ pub struct LinuxPpc64le;
 /// LoongArch of 64 bits, with all its calls on Linux 7.3.
 #[derive(Clone, Copy, Debug)]
 pub struct LinuxLoongarch64;
+
+/// z/Architecture, with all its calls on Linux 7.3. It is big-endian.
+#[derive(Clone, Copy, Debug)]
+pub struct LinuxS390x;
+
+/// S/390, the 31-bit programs of z/Architecture, with all their calls on Linux 6.12. Linux 7 runs none of them.
+#[derive(Clone, Copy, Debug)]
+pub struct LinuxS390;
 
 impl Machine for X86_64 {
     ghost TOKEN = { spec.x86_64_token };
@@ -325,5 +337,49 @@ impl Machine for LinuxLoongarch64 {
     #[tactic(auto, unfolding(crate::specs::Machines::linux_loongarch64_table))]
     fn name(number: u32) -> Option<&'static str> {
         linux_name(7, number)
+    }
+}
+
+impl Machine for LinuxS390x {
+    ghost TOKEN = { spec.s390x_token };
+
+    ghost table = { spec.linux_s390x_table };
+
+    ghost one_to_one = { whole.linux_s390x-one_to_one };
+
+    const TOKEN: u32 = S390X_TOKEN;
+
+    const SCMP: &'static str = "SCMP_ARCH_S390X";
+
+    #[tactic(auto, unfolding(crate::specs::Machines::linux_s390x_table))]
+    fn number(name: &str) -> Option<u32> {
+        linux_number(8, name)
+    }
+
+    #[tactic(auto, unfolding(crate::specs::Machines::linux_s390x_table))]
+    fn name(number: u32) -> Option<&'static str> {
+        linux_name(8, number)
+    }
+}
+
+impl Machine for LinuxS390 {
+    ghost TOKEN = { spec.s390_token };
+
+    ghost table = { spec.linux_s390_table };
+
+    ghost one_to_one = { whole.linux_s390-one_to_one };
+
+    const TOKEN: u32 = S390_TOKEN;
+
+    const SCMP: &'static str = "SCMP_ARCH_S390";
+
+    #[tactic(auto, unfolding(crate::specs::Machines::linux_s390_table))]
+    fn number(name: &str) -> Option<u32> {
+        linux_number(9, name)
+    }
+
+    #[tactic(auto, unfolding(crate::specs::Machines::linux_s390_table))]
+    fn name(number: u32) -> Option<&'static str> {
+        linux_name(9, number)
     }
 }

@@ -9,7 +9,7 @@ use crate::linux_calls::NONE;
 use std::cmp::Ordering;
 
 /// How many machines a row has numbers for.
-pub(crate) const MACHINES: usize = 8;
+pub(crate) const MACHINES: usize = 10;
 
 // The numbers beside the name, by halving.
 fn row_of<'a>(table: &'a [(&str, [u32; MACHINES])], name: &str) -> Option<&'a [u32; MACHINES]>
@@ -29,7 +29,7 @@ fn row_of<'a>(table: &'a [(&str, [u32; MACHINES])], name: &str) -> Option<&'a [u
 
 // The number in a column of a row, if there is one.
 fn number_at(numbers: &[u32; MACHINES], column: usize) -> Option<u32>
-    requires { column < 8 }
+    requires { column < 10 }
     ensures { result ≡ number_at column numbers.now }
 {
     let number = numbers[column];
@@ -39,7 +39,7 @@ fn number_at(numbers: &[u32; MACHINES], column: usize) -> Option<u32>
 /// The number of the name in a column.
 pub(crate) fn number_of(table: &[(&str, [u32; MACHINES])], column: usize, name: &str) -> Option<u32>
     requires sorted { IsTrue (are_sorted (rows table.now)) }
-    requires column { column < 8 }
+    requires column { column < 10 }
     ensures { result ≡ number_in (column_of column (rows table.now)) name.now }
 {
     match row_of(table, name) {
@@ -50,7 +50,7 @@ pub(crate) fn number_of(table: &[(&str, [u32; MACHINES])], column: usize, name: 
 
 // Whether a row has the number in a column.
 fn has_number(numbers: &[u32; MACHINES], column: usize, number: u32) -> bool
-    requires { column < 8 }
+    requires { column < 10 }
     ensures { IsTrue result ↔ (number_at column numbers.now ≡ Some number) }
 {
     match number_at(numbers, column) {
@@ -65,7 +65,7 @@ pub(crate) fn name_of(
     column: usize,
     number: u32,
 ) -> Option<&'static str>
-    requires { column < 8 }
+    requires { column < 10 }
     ensures { option_copied result ≡ name_in (column_of column (rows table.now)) number }
 {
     for (name, numbers) in table {

@@ -4,7 +4,7 @@ use Rattle.std.specs.List.{Any, Contains, list_any}
 use Rattle.std.proofs.lemmas.Bool.{cases_Bool}
 use Rattle.std.proofs.lemmas.List.Elements.{All-contains}
 use Rattle.call_tables.specs.declared.arch.Arch.{Arch}
-use Rattle.call_tables.specs.declared.arch.Arch.TheVariants.{X86_64, Aarch64, LinuxX86_64, LinuxX86, LinuxX32, LinuxAarch64, LinuxArm, LinuxRiscv64, LinuxPpc64le, LinuxLoongarch64}
+use Rattle.call_tables.specs.declared.arch.Arch.TheVariants.{X86_64, Aarch64, LinuxX86_64, LinuxX86, LinuxX32, LinuxAarch64, LinuxArm, LinuxRiscv64, LinuxPpc64le, LinuxLoongarch64, LinuxS390x, LinuxS390}
 use Rattle.call_tables.specs.declared.numbers.Numbers.{Numbers}
 use Rattle.call_tables.specs.Arch.{token_of, family_of, same_arch}
 use Rattle.call_tables.specs.Numbers.{from_to, other_numbers, own_numbers, foreign_numbers, shares_token, HasCall, IsWithin}
@@ -89,6 +89,8 @@ module _ (machines : List Arch) (order : InOrder machines) (small : AreSmallNati
   by_arch LinuxRiscv64 same is = inl is
   by_arch LinuxPpc64le same is = inl is
   by_arch LinuxLoongarch64 same is = inl is
+  by_arch LinuxS390x same is = inl is
+  by_arch LinuxS390 same is = inl is
 
   none_when : list_any (shares_token m) machines ≡ true → foreign_numbers machines m ≡ []
   none_when h = rw h refl

@@ -45,7 +45,7 @@ rows = map (λ entry. record {
 abbrev pub words_of : Meaning → List Text
 words_of Machine =
     codes "linux-x86-64" ∷ codes "linux-aarch64" ∷ codes "linux-riscv64" ∷ codes "linux-ppc64le"
-    ∷ codes "linux-loongarch64" ∷ codes "x86-64" ∷ codes "aarch64" ∷ []
+    ∷ codes "linux-loongarch64" ∷ codes "linux-s390x" ∷ codes "x86-64" ∷ codes "aarch64" ∷ []
 words_of Form = codes "raw" ∷ codes "listing" ∷ codes "cert" ∷ []
 words_of Judge =
     codes "verdict" ∷ codes "check" ∷ codes "certify" ∷ codes "explain" ∷ codes "read" ∷ codes "lint" ∷ codes "compare" ∷ codes "replay"

@@ -40,7 +40,7 @@ impl Meaning {
     pub(crate) fn text(self) -> &'static str {
         match self {
             Meaning::Machine => {
-                "the machine: linux-.. has all calls of Linux 7.3, the others about a hundred\n[possible values: linux-x86-64, linux-aarch64, linux-riscv64, linux-ppc64le,\nlinux-loongarch64, x86-64, aarch64]"
+                "the machine: linux-.. has all calls of Linux 7.3, the others about a hundred\n[possible values: linux-x86-64, linux-aarch64, linux-riscv64, linux-ppc64le,\nlinux-loongarch64, linux-s390x, x86-64, aarch64]"
             }
             Meaning::Bundle => { "a file with linux.seccomp of the OCI Runtime Specification" }
             Meaning::Bundles => { "files with linux.seccomp of the OCI Runtime Specification" }
@@ -117,6 +117,7 @@ impl Meaning {
                 "linux-riscv64",
                 "linux-ppc64le",
                 "linux-loongarch64",
+                "linux-s390x",
                 "x86-64",
                 "aarch64",
             ],

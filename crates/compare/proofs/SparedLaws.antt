@@ -3,7 +3,7 @@ use Rattle.std.proofs.Common.{◌≡◌, ◌↔◌, ℕ, ◌<◌, ◌≤◌, ◌
 use Rattle.std.specs.List.{All, Any}
 use Rattle.std.proofs.lemmas.Bool.{cases_lt}
 use Rattle.call_tables.specs.declared.arch.Arch.{Arch}
-use Rattle.call_tables.specs.declared.arch.Arch.TheVariants.{X86_64, Aarch64, LinuxX86_64, LinuxX86, LinuxX32, LinuxAarch64, LinuxArm, LinuxRiscv64, LinuxPpc64le, LinuxLoongarch64}
+use Rattle.call_tables.specs.declared.arch.Arch.TheVariants.{X86_64, Aarch64, LinuxX86_64, LinuxX86, LinuxX32, LinuxAarch64, LinuxArm, LinuxRiscv64, LinuxPpc64le, LinuxLoongarch64, LinuxS390x, LinuxS390}
 use Rattle.call_tables.specs.declared.numbers.Numbers.{Numbers}
 use Rattle.call_tables.specs.Arch.{token_of}
 use Rattle.call_tables.specs.Numbers.{HasCall, IsOwn, IsWithin, from_to}
@@ -89,6 +89,8 @@ own_alike LinuxArm a b alike own = in_all b (alike_small a b alike)
 own_alike LinuxRiscv64 a b alike own = in_all b (alike_small a b alike)
 own_alike LinuxPpc64le a b alike own = in_all b (alike_small a b alike)
 own_alike LinuxLoongarch64 a b alike own = in_all b (alike_small a b alike)
+own_alike LinuxS390x a b alike own = in_all b (alike_small a b alike)
+own_alike LinuxS390 a b alike own = in_all b (alike_small a b alike)
 
 turned : (a b : ℕ) → AreAlike a b → AreAlike b a
 turned a b (inl h) = inl (h.1, h.0)

@@ -5,7 +5,7 @@ use Rattle.std.specs.List.{flat_map, list_any}
 use Rattle.std.specs.Str.{bytes_eq}
 use Rattle.call_tables.specs.declared.arch.Arch.{Arch}
 use Rattle.call_tables.specs.declared.arch.Arch.TheVariants.{X86_64, Aarch64, LinuxX86_64, LinuxX86, LinuxX32}
-use Rattle.call_tables.specs.declared.arch.Arch.TheVariants.{LinuxAarch64, LinuxArm, LinuxRiscv64, LinuxPpc64le, LinuxLoongarch64}
+use Rattle.call_tables.specs.declared.arch.Arch.TheVariants.{LinuxAarch64, LinuxArm, LinuxRiscv64, LinuxPpc64le, LinuxLoongarch64, LinuxS390x, LinuxS390}
 use Rattle.call_tables.specs.Arch.{table_of}
 use Rattle.call_tables.specs.Table.{name_in}
 use Rattle.profile.specs.declared.conditions.Cond.{Cond}
@@ -15,7 +15,8 @@ use Rattle.constant_names.specs.declared.kinds.Kind.{Kind}
 use Rattle.constant_names.specs.Kinds.{are_bits, kind_of}
 use Rattle.constant_names.specs.Named.{name_of}
 
--- the machines of Linux, but ppc64le, whose constants have other numbers
+-- the machines of Linux, but ppc64le, whose constants have other numbers, and s390x with s390, whose clone has its arguments in
+-- another order
 abbrev pub has_names : Arch → Bool
 has_names X86_64 = false
 has_names Aarch64 = false
@@ -27,6 +28,8 @@ has_names LinuxArm = true
 has_names LinuxRiscv64 = true
 has_names LinuxPpc64le = false
 has_names LinuxLoongarch64 = true
+has_names LinuxS390x = false
+has_names LinuxS390 = false
 
 -- the line of a number that a call's argument is compared with
 abbrev pub line : List ℕ → ℕ → List ℕ → List ℕ → List ℕ

@@ -208,12 +208,13 @@ fn add_conditions(
     Ok(())
 }
 
-// Whether the constants have the same numbers on a machine as on x86-64.
+// Whether the constants have the same numbers on a machine as on x86-64, for the same arguments.
 fn has_names(arch: Arch) -> bool
     ensures { result ≡ spec.has_names arch }
 {
     match arch {
-        Arch::X86_64 | Arch::Aarch64 | Arch::LinuxPpc64le => false,
+        Arch::X86_64 | Arch::Aarch64 | Arch::LinuxPpc64le | Arch::LinuxS390x | Arch::LinuxS390 =>
+            false,
         Arch::LinuxX86_64
         | Arch::LinuxX86
         | Arch::LinuxX32

@@ -7,7 +7,7 @@ use Rattle.std.proofs.lemmas.List.Elements.{All-nil, All-push, All-same}
 use Rattle.call_record.specs.Record.{words}
 use Rattle.call_record.specs.Words.{word}
 use Rattle.call_record.specs.Verdict.{is_through}
-use Rattle.call_tables.specs.Machines.{aarch64_token, arm_token, loongarch64_token, ppc64le_token, riscv64_token, x86_64_token, x86_token}
+use Rattle.call_tables.specs.Machines.{aarch64_token, arm_token, loongarch64_token, ppc64le_token, riscv64_token, s390_token, s390x_token, x86_64_token, x86_token}
 use Rattle.profile.specs.Policy.{Policy}
 use Rattle.differ.specs.OnCall.{AreCrowded, AreLikeOnCall, IsFound, is_for}
 use Rattle.differ.specs.Direction.{tells}

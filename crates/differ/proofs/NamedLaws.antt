@@ -7,10 +7,10 @@ use Rattle.std.proofs.lemmas.List.Elements.{All-head, All-tail}
 use Rattle.call_record.specs.Words.{word, words_from}
 use Rattle.call_record.proofs.RecordLemmas.{words_from-is_record}
 use Rattle.call_tables.specs.declared.arch.Arch.{Arch}
-use Rattle.call_tables.specs.declared.arch.Arch.TheVariants.{X86_64, Aarch64, LinuxX86_64, LinuxX86, LinuxX32, LinuxAarch64, LinuxArm, LinuxRiscv64, LinuxPpc64le, LinuxLoongarch64}
+use Rattle.call_tables.specs.declared.arch.Arch.TheVariants.{X86_64, Aarch64, LinuxX86_64, LinuxX86, LinuxX32, LinuxAarch64, LinuxArm, LinuxRiscv64, LinuxPpc64le, LinuxLoongarch64, LinuxS390x, LinuxS390}
 use Rattle.call_tables.specs.declared.numbers.Numbers.{Numbers}
 use Rattle.call_tables.specs.Arch.{token_of}
-use Rattle.call_tables.specs.Machines.{aarch64_token, arm_token, loongarch64_token, ppc64le_token, riscv64_token, x86_64_token, x86_token}
+use Rattle.call_tables.specs.Machines.{aarch64_token, arm_token, loongarch64_token, ppc64le_token, riscv64_token, s390_token, s390x_token, x86_64_token, x86_token}
 use Rattle.call_tables.specs.Numbers.{IsWithin, has_call, is_within, own_numbers}
 use Rattle.profile.specs.declared.rules.Rule.{Rule}
 use Rattle.profile.specs.Policy.{Policy, IsClear}
@@ -126,6 +126,8 @@ own_same n m k LinuxArm = rw (k.from_0, k.to_last) refl
 own_same n m k LinuxRiscv64 = rw (k.from_0, k.to_last) refl
 own_same n m k LinuxPpc64le = rw (k.from_0, k.to_last) refl
 own_same n m k LinuxLoongarch64 = rw (k.from_0, k.to_last) refl
+own_same n m k LinuxS390x = rw (k.from_0, k.to_last) refl
+own_same n m k LinuxS390 = rw (k.from_0, k.to_last) refl
 
 pub native_same : (token n m : ℕ) → AreOfKind n m → (machines : List Arch) → list_any (has_call token n) machines ≡ list_any (has_call token m) machines
 native_same token n m k [] = refl
@@ -162,6 +164,8 @@ pub record AreListed (p q : Policy) (named rest : List Call) : Type 0 where
   pub riscv64 : AreCovered named rest riscv64_token
   pub ppc64le : AreCovered named rest ppc64le_token
   pub loongarch64 : AreCovered named rest loongarch64_token
+  pub s390x : AreCovered named rest s390x_token
+  pub s390 : AreCovered named rest s390_token
 
 pub no_rule : (named : List Call) (rules : List Rule) (t n : ℕ) → ((t n : ℕ) → list_any (is_for t n) rules ≡ true → is_named named t n ≡ true)
     → is_named named t n ≡ false → list_any (is_for t n) rules ≡ false
@@ -227,17 +231,19 @@ no_machine token n other arch =
 
 -- none of these tokens
 pub no_token : (token : ℕ) → token ≢ x86_64_token → token ≢ x86_token → token ≢ aarch64_token → token ≢ arm_token → token ≢ riscv64_token
-    → token ≢ ppc64le_token → token ≢ loongarch64_token → (arch : Arch) → token ≢ token_of arch
-no_token token a b c d e f g X86_64 = a
-no_token token a b c d e f g Aarch64 = c
-no_token token a b c d e f g LinuxX86_64 = a
-no_token token a b c d e f g LinuxX86 = b
-no_token token a b c d e f g LinuxX32 = a
-no_token token a b c d e f g LinuxAarch64 = c
-no_token token a b c d e f g LinuxArm = d
-no_token token a b c d e f g LinuxRiscv64 = e
-no_token token a b c d e f g LinuxPpc64le = f
-no_token token a b c d e f g LinuxLoongarch64 = g
+    → token ≢ ppc64le_token → token ≢ loongarch64_token → token ≢ s390x_token → token ≢ s390_token → (arch : Arch) → token ≢ token_of arch
+no_token token a b c d e f g h i X86_64 = a
+no_token token a b c d e f g h i Aarch64 = c
+no_token token a b c d e f g h i LinuxX86_64 = a
+no_token token a b c d e f g h i LinuxX86 = b
+no_token token a b c d e f g h i LinuxX32 = a
+no_token token a b c d e f g h i LinuxAarch64 = c
+no_token token a b c d e f g h i LinuxArm = d
+no_token token a b c d e f g h i LinuxRiscv64 = e
+no_token token a b c d e f g h i LinuxPpc64le = f
+no_token token a b c d e f g h i LinuxLoongarch64 = g
+no_token token a b c d e f g h i LinuxS390x = h
+no_token token a b c d e f g h i LinuxS390 = i
 
 pub none_native : (token n : ℕ) → ((arch : Arch) → has_call token n arch ≡ false) → (machines : List Arch) → list_any (has_call token n) machines ≡ false
 none_native token n h [] = refl
@@ -280,8 +286,14 @@ by_machine p q named rest direction token n r l like fits small unnamed of =
                 | inl is ↦ go ppc64le_token l.ppc64le is
                 | inr f ↦ elim (cases_eq token loongarch64_token) [
                   | inl is ↦ go loongarch64_token l.loongarch64 is
-                  | inr g ↦
-                      by_none p q direction token n r l.clear_p l.clear_q of (no_machine token n (no_token token a b c d e f g))
+                  | inr g ↦ elim (cases_eq token s390x_token) [
+                    | inl is ↦ go s390x_token l.s390x is
+                    | inr h ↦ elim (cases_eq token s390_token) [
+                      | inl is ↦ go s390_token l.s390 is
+                      | inr i ↦
+                          by_none p q direction token n r l.clear_p l.clear_q of (no_machine token n (no_token token a b c d e f g h i))
+                    ]
+                  ]
                 ]
               ]
             ]

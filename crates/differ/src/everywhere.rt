@@ -3,7 +3,7 @@ ghost use Rattle.std.specs.Prelude.{◌≡◌, ℕ, true, IfOk};
 ghost use Rattle.std.specs.List.{list_any};
 ghost use Rattle.profile.specs.Policy.{IsClear};
 ghost use Rattle.differ.specs.OnCall.{is_for};
-ghost use Rattle.call_tables.specs.Machines.{aarch64_token, arm_token, loongarch64_token, ppc64le_token, riscv64_token, x86_64_token, x86_token};
+ghost use Rattle.call_tables.specs.Machines.{aarch64_token, arm_token, loongarch64_token, ppc64le_token, riscv64_token, s390_token, s390x_token, x86_64_token, x86_token};
 ghost use Rattle.differ.specs.Named.{AreCovered, is_named};
 
 use crate::named::{Call, add_rest, add_rules};
@@ -20,6 +20,8 @@ pub fn rest_of(alloc: Global, named: &[Call]) -> Result<Vec<Call>, AllocError>
     ensures riscv64 { IfOk result (λ rest. AreCovered named.now rest.items riscv64_token) }
     ensures ppc64le { IfOk result (λ rest. AreCovered named.now rest.items ppc64le_token) }
     ensures loongarch64 { IfOk result (λ rest. AreCovered named.now rest.items loongarch64_token) }
+    ensures s390x { IfOk result (λ rest. AreCovered named.now rest.items s390x_token) }
+    ensures s390 { IfOk result (λ rest. AreCovered named.now rest.items s390_token) }
 {
     let mut rest = Vec::new(alloc);
     add_rest(named, &mut rest, Arch::LinuxX86_64.token())?;
@@ -29,6 +31,8 @@ pub fn rest_of(alloc: Global, named: &[Call]) -> Result<Vec<Call>, AllocError>
     add_rest(named, &mut rest, Arch::LinuxRiscv64.token())?;
     add_rest(named, &mut rest, Arch::LinuxPpc64le.token())?;
     add_rest(named, &mut rest, Arch::LinuxLoongarch64.token())?;
+    add_rest(named, &mut rest, Arch::LinuxS390x.token())?;
+    add_rest(named, &mut rest, Arch::LinuxS390.token())?;
     Ok(rest)
 }
 

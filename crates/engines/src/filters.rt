@@ -19,6 +19,8 @@ fn machine_name(native: Arch) -> &'static str {
         Arch::LinuxRiscv64 => "riscv64",
         Arch::LinuxPpc64le => "ppc64le",
         Arch::LinuxLoongarch64 => "loong64",
+        Arch::LinuxS390x => "s390x",
+        Arch::LinuxS390 => "s390",
     }
 }
 

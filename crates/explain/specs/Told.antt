@@ -72,5 +72,5 @@ IsAssembled text told = RefusesBytes text told ⊎ (RefusesListing text told ⊎
 abbrev pub IsVersion : Told → Type 0
 IsVersion told =
     TellsText (codes "ccell 0.1.0\nreads OCI Runtime Specification 1.0.2, 1.1.0, 1.2.0 and 1.2.1\n"
-    ++ codes "calls of Linux 7.3 on x86-64, x86, x32, AArch64, ARM, riscv64, ppc64le and loongarch64\n"
+    ++ codes "calls of Linux 7.3 on x86-64, x86, x32, AArch64, ARM, riscv64, ppc64le, loongarch64, s390x and s390\n"
     ++ codes "proved and built with rattle-kit-13f logic dac8208d650f15bf; docs/PROMISES.md says what is proved\n") told

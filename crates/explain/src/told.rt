@@ -101,7 +101,7 @@ pub fn assembled(alloc: Global, listing: &[u8]) -> Result<Told, AllocError>
 
 const VERSION: &str = "ccell 0.1.0\n\
     reads OCI Runtime Specification 1.0.2, 1.1.0, 1.2.0 and 1.2.1\n\
-    calls of Linux 7.3 on x86-64, x86, x32, AArch64, ARM, riscv64, ppc64le and loongarch64\n\
+    calls of Linux 7.3 on x86-64, x86, x32, AArch64, ARM, riscv64, ppc64le, loongarch64, s390x and s390\n\
     proved and built with rattle-kit-13f logic dac8208d650f15bf; docs/PROMISES.md says what is proved\n";
 
 /// The edition of the program, and with what it was proved.

@@ -3,9 +3,9 @@ use Rattle.std.proofs.Common.{◌≡◌, ℕ, Bool, true, false, List, Option, S
 use Rattle.std.specs.Option.{option_map}
 use Rattle.std.specs.Cmp.Lexicographic.{nat_list_eq_equiv}
 use Rattle.call_tables.specs.declared.arch.Arch.{Arch}
-use Rattle.call_tables.specs.declared.arch.Arch.TheVariants.{X86_64, Aarch64, LinuxX86_64, LinuxX86, LinuxX32, LinuxAarch64, LinuxArm, LinuxRiscv64, LinuxPpc64le, LinuxLoongarch64}
+use Rattle.call_tables.specs.declared.arch.Arch.TheVariants.{X86_64, Aarch64, LinuxX86_64, LinuxX86, LinuxX32, LinuxAarch64, LinuxArm, LinuxRiscv64, LinuxPpc64le, LinuxLoongarch64, LinuxS390x, LinuxS390}
 use Rattle.call_tables.specs.Machines.{first_rows, second_rows, third_rows, fourth_rows, x86_64_table, aarch64_table}
-use Rattle.call_tables.specs.Machines.{linux_x86_64_table, linux_x86_table, linux_x32_table, linux_aarch64_table, linux_arm_table, linux_riscv64_table, linux_ppc64le_table, linux_loongarch64_table}
+use Rattle.call_tables.specs.Machines.{linux_x86_64_table, linux_x86_table, linux_x32_table, linux_aarch64_table, linux_arm_table, linux_riscv64_table, linux_ppc64le_table, linux_loongarch64_table, linux_s390x_table, linux_s390_table}
 use Rattle.call_record.specs.declared.layout.Record.{Record}
 use Rattle.call_record.specs.declared.effect.Ends.{Ends}
 use Rattle.call_record.specs.declared.effect.Ends.TheVariants.{Nothing, Task, Group}
@@ -80,6 +80,14 @@ linux_loongarch64-first : row_of LinuxLoongarch64 (execve_of LinuxLoongarch64) �
 unfolding linux_loongarch64_table first_rows second_rows third_rows fourth_rows
 linux_loongarch64-first = refl
 
+linux_s390x-first : row_of LinuxS390x (execve_of LinuxS390x) ≡ Execve
+unfolding linux_s390x_table first_rows second_rows third_rows fourth_rows
+linux_s390x-first = refl
+
+linux_s390-first : row_of LinuxS390 (execve_of LinuxS390) ≡ Execve
+unfolding linux_s390_table first_rows second_rows third_rows fourth_rows
+linux_s390-first = refl
+
 pub first_row : (native : Arch) → row_of native (execve_of native) ≡ Execve
 first_row X86_64 = x86_64-first
 first_row Aarch64 = aarch64-first
@@ -91,6 +99,8 @@ first_row LinuxArm = linux_arm-first
 first_row LinuxRiscv64 = linux_riscv64-first
 first_row LinuxPpc64le = linux_ppc64le-first
 first_row LinuxLoongarch64 = linux_loongarch64-first
+first_row LinuxS390x = linux_s390x-first
+first_row LinuxS390 = linux_s390-first
 
 ends_by : (native : Arch) (first : Judge) (e : Ends) → let ps = ended_by_verdict e (first_task first) (admitted native first) in
     lives ps ≡ false → signalled 9 ps ≡ ps

@@ -4,7 +4,7 @@ use Rattle.std.specs.Prelude.{Some}
 use Rattle.std.specs.List.{All, Contains, list_any}
 use Rattle.std.proofs.lemmas.List.Elements.{All-contains, All-contains_itself, All-weaker}
 use Rattle.call_tables.specs.declared.arch.Arch.{Arch}
-use Rattle.call_tables.specs.declared.arch.Arch.TheVariants.{X86_64, Aarch64, LinuxX86_64, LinuxX86, LinuxX32, LinuxAarch64, LinuxArm, LinuxRiscv64, LinuxPpc64le, LinuxLoongarch64}
+use Rattle.call_tables.specs.declared.arch.Arch.TheVariants.{X86_64, Aarch64, LinuxX86_64, LinuxX86, LinuxX32, LinuxAarch64, LinuxArm, LinuxRiscv64, LinuxPpc64le, LinuxLoongarch64, LinuxS390x, LinuxS390}
 use Rattle.call_tables.specs.declared.arch.Family.TheVariants.{Chosen, Whole}
 use Rattle.call_tables.specs.Arch.{family_of, same_arch, table_of}
 use Rattle.call_tables.specs.Table.{name_in}
@@ -64,6 +64,8 @@ chosen_small LinuxArm is = cc
 chosen_small LinuxRiscv64 is = cc
 chosen_small LinuxPpc64le is = cc
 chosen_small LinuxLoongarch64 is = cc
+chosen_small LinuxS390x is = cc
+chosen_small LinuxS390 is = cc
 
 -- they have two tokens at most
 chosen_few : (archs : List Arch) → tokens (in_order Chosen archs) ≤ 2

@@ -6,11 +6,11 @@ use Rattle.std.proofs.lemmas.Bool.{and_parts, leb-true}
 use Rattle.std.proofs.lemmas.Bool.Decides.{eqb_tells}
 use Rattle.std.proofs.lemmas.List.Elements.{All-contains_itself, All-weaker}
 use Rattle.call_tables.specs.declared.arch.Arch.{Arch}
-use Rattle.call_tables.specs.declared.arch.Arch.TheVariants.{X86_64, Aarch64, LinuxX86_64, LinuxX86, LinuxX32, LinuxAarch64, LinuxArm, LinuxRiscv64, LinuxPpc64le, LinuxLoongarch64}
+use Rattle.call_tables.specs.declared.arch.Arch.TheVariants.{X86_64, Aarch64, LinuxX86_64, LinuxX86, LinuxX32, LinuxAarch64, LinuxArm, LinuxRiscv64, LinuxPpc64le, LinuxLoongarch64, LinuxS390x, LinuxS390}
 use Rattle.call_tables.specs.declared.numbers.Numbers.{Numbers}
 use Rattle.call_tables.specs.Arch.{table_of, token_of}
 use Rattle.call_tables.specs.Machines.{first_rows, second_rows, third_rows, fourth_rows, x86_64_table, aarch64_table}
-use Rattle.call_tables.specs.Machines.{linux_x86_64_table, linux_x86_table, linux_aarch64_table, linux_riscv64_table, linux_ppc64le_table, linux_loongarch64_table}
+use Rattle.call_tables.specs.Machines.{linux_x86_64_table, linux_x86_table, linux_aarch64_table, linux_riscv64_table, linux_ppc64le_table, linux_loongarch64_table, linux_s390x_table, linux_s390_table}
 use Rattle.call_tables.specs.Numbers.{from_to, HasCall, IsOwn, IsWithin}
 use Rattle.call_tables.specs.Table.{Table, name_in}
 use Rattle.profile.specs.declared.rules.Rule.{Rule}
@@ -59,6 +59,14 @@ linux_loongarch64_below : are_below above_all_numbers linux_loongarch64_table �
 unfolding linux_loongarch64_table first_rows second_rows third_rows fourth_rows
 linux_loongarch64_below = refl
 
+linux_s390x_below : are_below above_all_numbers linux_s390x_table ≡ true
+unfolding linux_s390x_table first_rows second_rows third_rows fourth_rows
+linux_s390x_below = refl
+
+linux_s390_below : are_below above_all_numbers linux_s390_table ≡ true
+unfolding linux_s390_table first_rows second_rows third_rows fourth_rows
+linux_s390_below = refl
+
 tables_below : (arch : Arch) → HasSmallNumbers arch → are_below above_all_numbers (table_of arch) ≡ true
 tables_below X86_64 small = x86_64_below
 tables_below Aarch64 small = aarch64_below
@@ -70,6 +78,8 @@ tables_below LinuxArm small = absurd small
 tables_below LinuxRiscv64 small = linux_riscv64_below
 tables_below LinuxPpc64le small = linux_ppc64le_below
 tables_below LinuxLoongarch64 small = linux_loongarch64_below
+tables_below LinuxS390x small = linux_s390x_below
+tables_below LinuxS390 small = linux_s390_below
 
 -- a rule of the tables is plain
 pub table_rule_is_plain : (rule : Rule) → IsTableRule rule → IsPlainRule rule
@@ -99,6 +109,8 @@ module _ (machines : List Arch) (nr : ℕ) (less : nr < above_all_numbers) where
   small_native beside LinuxRiscv64 listed = listed_own LinuxRiscv64 listed (first_own 0xffffffff [] (omega (arith, less)))
   small_native beside LinuxPpc64le listed = listed_own LinuxPpc64le listed (first_own 0xffffffff [] (omega (arith, less)))
   small_native beside LinuxLoongarch64 listed = listed_own LinuxLoongarch64 listed (first_own 0xffffffff [] (omega (arith, less)))
+  small_native beside LinuxS390x listed = listed_own LinuxS390x listed (first_own 0xffffffff [] (omega (arith, less)))
+  small_native beside LinuxS390 listed = listed_own LinuxS390 listed (first_own 0xffffffff [] (omega (arith, less)))
 
 pub beside_small : (machines : List Arch) → IsX32Beside machines → AreSmallNative machines
 beside_small machines beside =

@@ -6,12 +6,12 @@ use Rattle.std.proofs.lemmas.Slice.Eq.{bytes_eq-Decides}
 use Rattle.call_tables.specs.declared.arch.Arch.{Arch}
 use Rattle.call_tables.specs.Arch.{table_of}
 use Rattle.call_tables.specs.Machines.{first_rows, second_rows, third_rows, fourth_rows, x86_64_table, aarch64_table}
-use Rattle.call_tables.specs.Machines.{linux_x86_64_table, linux_x86_table, linux_x32_table, linux_aarch64_table, linux_arm_table, linux_riscv64_table, linux_ppc64le_table, linux_loongarch64_table}
+use Rattle.call_tables.specs.Machines.{linux_x86_64_table, linux_x86_table, linux_x32_table, linux_aarch64_table, linux_arm_table, linux_riscv64_table, linux_ppc64le_table, linux_loongarch64_table, linux_s390x_table, linux_s390_table}
 use Rattle.call_tables.specs.Table.{IsInverse, Table, name_in, number_in}
 use Rattle.call_tables.proofs.ArchLaws.{table_of-inverse}
 use Rattle.processes.specs.Calls.{call_beside, named_calls}
 use Rattle.processes.specs.declared.calls.Call.{Call}
-use Rattle.processes.specs.declared.calls.TheConstants.{X86_64_NUMBERS, X86_NUMBERS, X32_NUMBERS, AARCH64_NUMBERS, ARM_NUMBERS, PPC64LE_NUMBERS}
+use Rattle.processes.specs.declared.calls.TheConstants.{X86_64_NUMBERS, X86_NUMBERS, X32_NUMBERS, AARCH64_NUMBERS, ARM_NUMBERS, PPC64LE_NUMBERS, S390_NUMBERS}
 use Rattle.processes.specs.inner.Numbers.{call_at, numbers_in, with_number}
 
 module _ (t : Table) (inverse : IsInverse t) (name : List ℕ) (nr : ℕ) (named : name_in t nr ≡ Some name) where
@@ -92,3 +92,11 @@ linux_ppc64le_numbers = refl
 pub linux_loongarch64_numbers : AARCH64_NUMBERS.now ≡ numbers_in linux_loongarch64_table named_calls
 unfolding linux_loongarch64_table first_rows second_rows third_rows fourth_rows
 linux_loongarch64_numbers = refl
+
+pub linux_s390x_numbers : S390_NUMBERS.now ≡ numbers_in linux_s390x_table named_calls
+unfolding linux_s390x_table first_rows second_rows third_rows fourth_rows
+linux_s390x_numbers = refl
+
+pub linux_s390_numbers : S390_NUMBERS.now ≡ numbers_in linux_s390_table named_calls
+unfolding linux_s390_table first_rows second_rows third_rows fourth_rows
+linux_s390_numbers = refl

@@ -152,6 +152,23 @@ pub(crate) const PPC64LE_NUMBERS: &[(u32, Call)] = &[
     (435, Call::Lacking),
 ];
 
+/// The numbers of these calls on s390x and s390.
+pub(crate) const S390_NUMBERS: &[(u32, Call)] = &[
+    (2, Call::Fork),
+    (190, Call::Fork),
+    (120, Call::Clone),
+    (11, Call::Execve),
+    (1, Call::Exit),
+    (248, Call::ExitGroup),
+    (37, Call::Kill),
+    (20, Call::GetPid),
+    (236, Call::GetTid),
+    (64, Call::GetParent),
+    (348, Call::Seccomp),
+    (172, Call::Prctl),
+    (435, Call::Lacking),
+];
+
 // The numbers of these calls on a machine.
 fn numbers_of(native: Arch) -> &'static [(u32, Call)]
     ensures { result.now ≡ numbers_in (table_of native) named_calls }
@@ -167,6 +184,8 @@ fn numbers_of(native: Arch) -> &'static [(u32, Call)]
         Arch::LinuxRiscv64 => AARCH64_NUMBERS,
         Arch::LinuxPpc64le => PPC64LE_NUMBERS,
         Arch::LinuxLoongarch64 => AARCH64_NUMBERS,
+        Arch::LinuxS390x => S390_NUMBERS,
+        Arch::LinuxS390 => S390_NUMBERS,
     }
 }
 

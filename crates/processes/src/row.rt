@@ -1,6 +1,6 @@
 //! The rows of the table of calls: what the kernel knows of a record before any task is looked at.
 ghost use Rattle.std.specs.Prelude.{◌≡◌};
-ghost use Rattle.processes.specs.Calls.{prctl_row, row_by, row_of, seccomp_row};
+ghost use Rattle.processes.specs.Calls.{clone_flags, prctl_row, row_by, row_of, seccomp_row};
 
 use crate::calls::Call;
 use crate::flags::FilterFlags;
@@ -82,6 +82,17 @@ fn prctl_row(rec: &Record) -> Row
     Row::Load { for_all: false }
 }
 
+// The flags of a clone call, which on s390x and s390 are its second argument (clone(2)).
+fn clone_flags(rec: &Record) -> u64
+    ensures { result ≡ clone_flags rec.now }
+{
+    if rec.arch == Arch::LinuxS390x.token() || rec.arch == Arch::LinuxS390.token() {
+        rec.args[1]
+    } else {
+        rec.args[0]
+    }
+}
+
 // The row of a record of this call.
 fn row_by(call: Call, rec: &Record) -> Row
     ensures { result ≡ row_by call rec.now }
@@ -89,7 +100,7 @@ fn row_by(call: Call, rec: &Record) -> Row
     match call {
         Call::Fork => Row::NewTask,
         Call::Clone => {
-            if rec.args[0] & CLONE_THREAD == 0 {
+            if clone_flags(rec) & CLONE_THREAD == 0 {
                 Row::NewTask
             } else {
                 Row::NewThread

@@ -10,7 +10,7 @@ use Rattle.std.proofs.lemmas.Bool.Decides.{Decides-by_or, Decides-like, same_fro
 use Rattle.std.proofs.lemmas.List.Elements.{All-contains, All-contains_itself, All-cons, All-filter, All-nil, All-weaker, at_read}
 use Rattle.std.proofs.lemmas.List.Elements.{filter_agree, filter_more, filter_passes}
 use Rattle.call_tables.specs.declared.arch.Arch.{Arch}
-use Rattle.call_tables.specs.declared.arch.Arch.TheVariants.{X86_64, Aarch64, LinuxX86_64, LinuxX86, LinuxX32, LinuxAarch64, LinuxArm, LinuxRiscv64, LinuxPpc64le, LinuxLoongarch64}
+use Rattle.call_tables.specs.declared.arch.Arch.TheVariants.{X86_64, Aarch64, LinuxX86_64, LinuxX86, LinuxX32, LinuxAarch64, LinuxArm, LinuxRiscv64, LinuxPpc64le, LinuxLoongarch64, LinuxS390x, LinuxS390}
 use Rattle.call_tables.specs.declared.arch.Family.{Family}
 use Rattle.call_tables.specs.declared.arch.Family.TheVariants.{Chosen, Whole}
 use Rattle.call_tables.specs.Arch.{family_of, machines_of, same_arch, AreOfFamily}
@@ -79,6 +79,8 @@ among_family LinuxArm = (4, omega arith, refl)
 among_family LinuxRiscv64 = (5, omega arith, refl)
 among_family LinuxPpc64le = (6, omega arith, refl)
 among_family LinuxLoongarch64 = (7, omega arith, refl)
+among_family LinuxS390x = (8, omega arith, refl)
+among_family LinuxS390 = (9, omega arith, refl)
 
 pub machines-of_family : (family : Family) → AreOfFamily family (machines_of family)
 machines-of_family Chosen =
@@ -86,14 +88,16 @@ machines-of_family Chosen =
     All-cons P X86_64 (Aarch64 ∷ []) refl (All-cons P Aarch64 [] refl (All-nil P))
 machines-of_family Whole =
     let P : Arch → Type 0 = λ a. family_of a ≡ Whole in
-    All-cons P LinuxX86_64 (LinuxX32 ∷ LinuxX86 ∷ LinuxAarch64 ∷ LinuxArm ∷ LinuxRiscv64 ∷ LinuxPpc64le ∷ LinuxLoongarch64 ∷ []) refl
-    (All-cons P LinuxX32 (LinuxX86 ∷ LinuxAarch64 ∷ LinuxArm ∷ LinuxRiscv64 ∷ LinuxPpc64le ∷ LinuxLoongarch64 ∷ []) refl
-    (All-cons P LinuxX86 (LinuxAarch64 ∷ LinuxArm ∷ LinuxRiscv64 ∷ LinuxPpc64le ∷ LinuxLoongarch64 ∷ []) refl
-    (All-cons P LinuxAarch64 (LinuxArm ∷ LinuxRiscv64 ∷ LinuxPpc64le ∷ LinuxLoongarch64 ∷ []) refl
-    (All-cons P LinuxArm (LinuxRiscv64 ∷ LinuxPpc64le ∷ LinuxLoongarch64 ∷ []) refl
-    (All-cons P LinuxRiscv64 (LinuxPpc64le ∷ LinuxLoongarch64 ∷ []) refl
-    (All-cons P LinuxPpc64le (LinuxLoongarch64 ∷ []) refl
-    (All-cons P LinuxLoongarch64 [] refl (All-nil P))))))))
+    All-cons P LinuxX86_64 (LinuxX32 ∷ LinuxX86 ∷ LinuxAarch64 ∷ LinuxArm ∷ LinuxRiscv64 ∷ LinuxPpc64le ∷ LinuxLoongarch64 ∷ LinuxS390x ∷ LinuxS390 ∷ []) refl
+    (All-cons P LinuxX32 (LinuxX86 ∷ LinuxAarch64 ∷ LinuxArm ∷ LinuxRiscv64 ∷ LinuxPpc64le ∷ LinuxLoongarch64 ∷ LinuxS390x ∷ LinuxS390 ∷ []) refl
+    (All-cons P LinuxX86 (LinuxAarch64 ∷ LinuxArm ∷ LinuxRiscv64 ∷ LinuxPpc64le ∷ LinuxLoongarch64 ∷ LinuxS390x ∷ LinuxS390 ∷ []) refl
+    (All-cons P LinuxAarch64 (LinuxArm ∷ LinuxRiscv64 ∷ LinuxPpc64le ∷ LinuxLoongarch64 ∷ LinuxS390x ∷ LinuxS390 ∷ []) refl
+    (All-cons P LinuxArm (LinuxRiscv64 ∷ LinuxPpc64le ∷ LinuxLoongarch64 ∷ LinuxS390x ∷ LinuxS390 ∷ []) refl
+    (All-cons P LinuxRiscv64 (LinuxPpc64le ∷ LinuxLoongarch64 ∷ LinuxS390x ∷ LinuxS390 ∷ []) refl
+    (All-cons P LinuxPpc64le (LinuxLoongarch64 ∷ LinuxS390x ∷ LinuxS390 ∷ []) refl
+    (All-cons P LinuxLoongarch64 (LinuxS390x ∷ LinuxS390 ∷ []) refl
+    (All-cons P LinuxS390x (LinuxS390 ∷ []) refl
+    (All-cons P LinuxS390 [] refl (All-nil P))))))))))
 
 -- ---- machines in order
 

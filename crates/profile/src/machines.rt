@@ -11,7 +11,7 @@ use arrayvec::ArrayVec;
 use call_tables::{Arch, Family, Numbers};
 
 /// How many machines a family has at most.
-pub const MACHINES: usize = 8;
+pub const MACHINES: usize = 10;
 
 /// The listed machines, of one family, each once, x86-64 first.
 pub fn in_order(family: Family, archs: &[Arch]) -> ArrayVec<Arch, MACHINES>

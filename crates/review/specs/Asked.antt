@@ -1,10 +1,11 @@
 -- What groups of calls ask about.
-use Rattle.std.specs.Prelude.{◌≡◌, ℕ, bit_and, List, [], ◌∷◌, Option, Some, None}
+use Rattle.std.specs.Prelude.{◌≡◌, ◌&&◌, ℕ, bit_and, codes, if◌then◌else◌, List, [], ◌∷◌, Option, Some, None}
 use Rattle.std.specs.List.{flat_map}
+use Rattle.std.specs.Str.{bytes_eq}
 use Rattle.call_tables.specs.declared.arch.Arch.{Arch}
 use Rattle.call_tables.specs.declared.arch.Arch.TheVariants.{X86_64, Aarch64, LinuxX86_64, LinuxX86, LinuxX32}
-use Rattle.call_tables.specs.declared.arch.Arch.TheVariants.{LinuxAarch64, LinuxArm, LinuxRiscv64, LinuxPpc64le, LinuxLoongarch64}
-use Rattle.call_tables.specs.Arch.{table_of, token_of}
+use Rattle.call_tables.specs.declared.arch.Arch.TheVariants.{LinuxAarch64, LinuxArm, LinuxRiscv64, LinuxPpc64le, LinuxLoongarch64, LinuxS390x, LinuxS390}
+use Rattle.call_tables.specs.Arch.{is_big_endian, table_of, token_of}
 use Rattle.call_tables.specs.Table.{number_in}
 use Rattle.profile.specs.Rule.{argument_of}
 use Rattle.differ.specs.OnCall.{IsOfCall}
@@ -25,14 +26,21 @@ whole LinuxArm = LinuxArm
 whole LinuxRiscv64 = LinuxRiscv64
 whole LinuxPpc64le = LinuxPpc64le
 whole LinuxLoongarch64 = LinuxLoongarch64
+whole LinuxS390x = LinuxS390x
+whole LinuxS390 = LinuxS390
 
 -- a call of a machine by its number, if it has one
 abbrev pub asked_with : PartEntry → Arch → Option ℕ → List Asked
 asked_with part arch None = []
 asked_with part arch (Some nr) = record { arch = arch; nr = nr; part = part } ∷ []
 
+-- the part of a call on a machine: the flags of clone, the first argument elsewhere, are the second one on s390x and s390
+-- (clone(2), C library/kernel differences)
+abbrev pub part_on : Arch → List ℕ → PartEntry → PartEntry
+part_on arch name part = if is_big_endian arch && bytes_eq name (codes "clone") then (part.0, 1, part.2, part.3) else part
+
 abbrev pub asked_on : PartEntry → List ℕ → Arch → List Asked
-asked_on part name arch = asked_with part arch (number_in (table_of (whole arch)) name)
+asked_on part name arch = asked_with (part_on arch name part) arch (number_in (table_of (whole arch)) name)
 
 -- a call of machines
 abbrev pub asked_by : List Arch → PartEntry → List ℕ → List Asked

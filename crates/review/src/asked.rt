@@ -29,8 +29,22 @@ pub(crate) fn whole(arch: Arch) -> Arch
         | Arch::LinuxArm
         | Arch::LinuxRiscv64
         | Arch::LinuxPpc64le
-        | Arch::LinuxLoongarch64 => arch,
+        | Arch::LinuxLoongarch64
+        | Arch::LinuxS390x
+        | Arch::LinuxS390 => arch,
     }
+}
+
+// The part of a call on a machine: the flags of clone, the first argument elsewhere, are the second one on s390x and s390
+// (clone(2), C library/kernel differences).
+fn part_on(arch: Arch, name: &str, part: Part) -> Part
+    ensures { result.entry ≡ spec.part_on arch name.now part.entry }
+{
+    if !arch.is_big_endian() || name != "clone" {
+        return part;
+    }
+    let (title, _, mask, bits) = part;
+    (title, 1, mask, bits)
 }
 
 // Adds a call of a machine, if the machine has it.
@@ -39,7 +53,11 @@ fn add_on(list: &mut Vec<Asked>, arch: Arch, name: &str, part: Part) -> Result<(
 {
     match whole(arch).number(name) {
         Some(nr) => {
-            list.push(Asked { arch, nr, part })?;
+            list.push(Asked {
+                arch,
+                nr,
+                part: part_on(arch, name, part),
+            })?;
             Ok(())
         }
         None => Ok(()),

@@ -5,7 +5,7 @@ use Rattle.std.specs.List.{Any, Contains, list_any}
 use Rattle.std.proofs.lemmas.Bool.{cases_Bool, cases_lt}
 use Rattle.std.proofs.lemmas.List.Elements.{All-contains}
 use Rattle.call_tables.specs.declared.arch.Arch.{Arch}
-use Rattle.call_tables.specs.declared.arch.Arch.TheVariants.{X86_64, Aarch64, LinuxX86_64, LinuxX86, LinuxX32, LinuxAarch64, LinuxArm, LinuxRiscv64, LinuxPpc64le, LinuxLoongarch64}
+use Rattle.call_tables.specs.declared.arch.Arch.TheVariants.{X86_64, Aarch64, LinuxX86_64, LinuxX86, LinuxX32, LinuxAarch64, LinuxArm, LinuxRiscv64, LinuxPpc64le, LinuxLoongarch64, LinuxS390x, LinuxS390}
 use Rattle.call_tables.specs.declared.numbers.Numbers.{Numbers}
 use Rattle.call_tables.specs.Arch.{token_of, family_of, same_arch}
 use Rattle.call_tables.specs.Numbers.{from_to, other_numbers, foreign_numbers, shares_token, HasCall, IsOwn, IsWithin}
@@ -53,6 +53,8 @@ others_split LinuxArm = no_stretch refl
 others_split LinuxRiscv64 = no_stretch refl
 others_split LinuxPpc64le = no_stretch refl
 others_split LinuxLoongarch64 = no_stretch refl
+others_split LinuxS390x = no_stretch refl
+others_split LinuxS390 = no_stretch refl
 
 none_when : (machines : List Arch) (m : Arch) → list_any (shares_token m) machines ≡ true → foreign_numbers machines m ≡ []
 none_when machines m h = rw h refl

@@ -8,11 +8,11 @@ use Rattle.std.proofs.lemmas.Bool.{and_parts}
 use Rattle.std.proofs.lemmas.Option.{same_Some}
 use Rattle.std.proofs.lemmas.Slice.Eq.{bytes_eq-Decides}
 use Rattle.call_tables.specs.declared.arch.Arch.{Arch}
-use Rattle.call_tables.specs.declared.arch.Arch.TheVariants.{X86_64, Aarch64, LinuxX86_64, LinuxX86, LinuxX32, LinuxAarch64, LinuxArm, LinuxRiscv64, LinuxPpc64le, LinuxLoongarch64}
+use Rattle.call_tables.specs.declared.arch.Arch.TheVariants.{X86_64, Aarch64, LinuxX86_64, LinuxX86, LinuxX32, LinuxAarch64, LinuxArm, LinuxRiscv64, LinuxPpc64le, LinuxLoongarch64, LinuxS390x, LinuxS390}
 use Rattle.call_tables.specs.declared.arch.Family.{Family}
 use Rattle.call_tables.specs.declared.arch.Family.TheVariants.{Chosen, Whole}
 use Rattle.call_tables.specs.Machines.{first_rows, second_rows, third_rows, fourth_rows, x86_64_table, aarch64_table}
-use Rattle.call_tables.specs.Machines.{linux_x86_64_table, linux_x86_table, linux_x32_table, linux_aarch64_table, linux_arm_table, linux_riscv64_table, linux_ppc64le_table, linux_loongarch64_table}
+use Rattle.call_tables.specs.Machines.{linux_x86_64_table, linux_x86_table, linux_x32_table, linux_aarch64_table, linux_arm_table, linux_riscv64_table, linux_ppc64le_table, linux_loongarch64_table, linux_s390x_table, linux_s390_table}
 use Rattle.call_tables.specs.Arch.{table_of, machine_name, family_of, same_family, machine_called, native_called}
 use Rattle.call_tables.specs.Table.{Table, number_in}
 use Rattle.texts.specs.Splits.{split_at}
@@ -77,6 +77,14 @@ linux_loongarch64-plain : list_all is_plain linux_loongarch64_table ≡ true
 unfolding linux_loongarch64_table first_rows second_rows third_rows fourth_rows
 linux_loongarch64-plain = refl
 
+linux_s390x-plain : list_all is_plain linux_s390x_table ≡ true
+unfolding linux_s390x_table first_rows second_rows third_rows fourth_rows
+linux_s390x-plain = refl
+
+linux_s390-plain : list_all is_plain linux_s390_table ≡ true
+unfolding linux_s390_table first_rows second_rows third_rows fourth_rows
+linux_s390-plain = refl
+
 table-plain : (arch : Arch) → list_all is_plain (table_of arch) ≡ true
 table-plain X86_64 = x86_64-plain
 table-plain Aarch64 = aarch64-plain
@@ -88,6 +96,8 @@ table-plain LinuxArm = linux_arm-plain
 table-plain LinuxRiscv64 = linux_riscv64-plain
 table-plain LinuxPpc64le = linux_ppc64le-plain
 table-plain LinuxLoongarch64 = linux_loongarch64-plain
+table-plain LinuxS390x = linux_s390x-plain
+table-plain LinuxS390 = linux_s390-plain
 
 foreign_is_not_plain : (arch : Arch) (ds : List ℕ) → lacks colon (machine_name arch ++ colon ∷ ds) ≡ true → ⊥
 foreign_is_not_plain X86_64 ds h = cc
@@ -100,6 +110,8 @@ foreign_is_not_plain LinuxArm ds h = cc
 foreign_is_not_plain LinuxRiscv64 ds h = cc
 foreign_is_not_plain LinuxPpc64le ds h = cc
 foreign_is_not_plain LinuxLoongarch64 ds h = cc
+foreign_is_not_plain LinuxS390x ds h = cc
+foreign_is_not_plain LinuxS390 ds h = cc
 
 unnamed : (native arch : Arch) (text : List ℕ) (nr : ℕ) → IsForeign (family_of native) text arch nr → number_in (table_of native) text ≡ None
 unnamed native arch text nr f = by_name (number_in (table_of native) text) refl where
@@ -133,13 +145,14 @@ native_called-some : (name : List ℕ) (arch : Arch) → native_called name ≡ 
 unfolding native_called
 native_called-some name arch h =
     called_some X86_64 arch name _ (called_some Aarch64 arch name _ (called_some LinuxX86_64 arch name _
-    (called_some LinuxAarch64 arch name _ (called_some LinuxRiscv64 arch name _ (called_some LinuxPpc64le arch name _ (called_some LinuxLoongarch64 arch name None (λ e. absurd (cc)))))))) h
+    (called_some LinuxAarch64 arch name _ (called_some LinuxRiscv64 arch name _ (called_some LinuxPpc64le arch name _ (called_some LinuxLoongarch64 arch name _
+    (called_some LinuxS390x arch name None (λ e. absurd (cc))))))))) h
 
 machine_called-some : (name : List ℕ) (arch : Arch) → machine_called name ≡ Some arch → name ≡ machine_name arch
 unfolding machine_called
 machine_called-some name arch h =
-    called_some LinuxX86 arch name _ (called_some LinuxX32 arch name _ (called_some LinuxArm arch name (native_called name)
-    (native_called-some name arch))) h
+    called_some LinuxX86 arch name _ (called_some LinuxX32 arch name _ (called_some LinuxArm arch name _
+    (called_some LinuxS390 arch name (native_called name) (native_called-some name arch)))) h
 
 same_family-is : (family other : Family) → same_family family other ≡ true → family ≡ other
 same_family-is Chosen Chosen h = refl
@@ -171,6 +184,8 @@ foreign_at-spelled LinuxArm ds = refl
 foreign_at-spelled LinuxRiscv64 ds = refl
 foreign_at-spelled LinuxPpc64le ds = refl
 foreign_at-spelled LinuxLoongarch64 ds = refl
+foreign_at-spelled LinuxS390x ds = refl
+foreign_at-spelled LinuxS390 ds = refl
 
 foreign_at-is : (family : Family) (text : List ℕ) (arch : Arch) (nr : ℕ) → IsForeign family text arch nr
     → foreign_at family text ≡ Some (arch, nr)

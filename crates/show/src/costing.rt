@@ -49,7 +49,8 @@ fn machines_of(native: Arch) -> &'static [Arch] {
         Arch::LinuxRiscv64 => &[Arch::LinuxRiscv64],
         Arch::LinuxPpc64le => &[Arch::LinuxPpc64le],
         Arch::LinuxLoongarch64 => &[Arch::LinuxLoongarch64],
-        Arch::LinuxX86 | Arch::LinuxX32 | Arch::LinuxArm => &[],
+        Arch::LinuxS390x => &[Arch::LinuxS390x, Arch::LinuxS390],
+        Arch::LinuxX86 | Arch::LinuxX32 | Arch::LinuxArm | Arch::LinuxS390 => &[],
     }
 }
 

@@ -9,7 +9,7 @@ use Rattle.texts.specs.Numbers.{decimal_at, hexadecimal_at}
 use Rattle.texts.specs.Splits.{behind, split_at}
 use Rattle.call_tables.specs.declared.arch.Arch.{Arch}
 use Rattle.call_tables.specs.declared.arch.Arch.TheVariants.{X86_64, Aarch64, LinuxX86_64, LinuxX86, LinuxX32}
-use Rattle.call_tables.specs.declared.arch.Arch.TheVariants.{LinuxAarch64, LinuxArm, LinuxRiscv64, LinuxPpc64le, LinuxLoongarch64}
+use Rattle.call_tables.specs.declared.arch.Arch.TheVariants.{LinuxAarch64, LinuxArm, LinuxRiscv64, LinuxPpc64le, LinuxLoongarch64, LinuxS390x, LinuxS390}
 use Rattle.call_tables.specs.Arch.{table_of, token_of}
 use Rattle.call_tables.specs.Table.{number_in}
 use Rattle.call_record.specs.Words.{words_from}
@@ -32,6 +32,8 @@ machines_run LinuxArm = LinuxArm ∷ []
 machines_run LinuxRiscv64 = LinuxRiscv64 ∷ []
 machines_run LinuxPpc64le = LinuxPpc64le ∷ []
 machines_run LinuxLoongarch64 = LinuxLoongarch64 ∷ []
+machines_run LinuxS390x = LinuxS390x ∷ LinuxS390 ∷ []
+machines_run LinuxS390 = LinuxS390 ∷ []
 
 abbrev pub is_number : Option ℕ → ℕ → Bool
 is_number None nr = false

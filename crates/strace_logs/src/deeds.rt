@@ -34,14 +34,23 @@ fn opens_to_write(name: &str, args: &[u64; 6]) -> bool {
 }
 
 // How many processes a call makes. What clone3 makes is not seen: most often it is a thread.
-fn forks(name: &str, args: &[u64; 6]) -> u64 {
+fn forks(name: &str, flags: u64) -> u64 {
     if name == "fork" || name == "vfork" {
         return 1;
     }
-    if name == "clone" && args[0] & THREAD == 0 {
+    if name == "clone" && flags & THREAD == 0 {
         return 1;
     }
     0
+}
+
+// The flags of clone: its second argument on s390x and s390, and its first elsewhere (clone(2)).
+fn clone_flags(call: &Call<'_>) -> u64 {
+    if call.arch.is_big_endian() {
+        call.args[1]
+    } else {
+        call.args[0]
+    }
 }
 
 const SYNCS: &[&str] = &[
@@ -86,7 +95,7 @@ impl Deeds {
             truncates: is_shown(self.truncates, TRUNCATES, name),
             renames: is_shown(self.renames, RENAMES, name),
             unlinks: is_shown(self.unlinks, UNLINKS, name),
-            forks: self.forks.saturating_add(forks(name, &call.args)),
+            forks: self.forks.saturating_add(forks(name, clone_flags(call))),
         }
     }
 

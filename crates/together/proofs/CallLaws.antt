@@ -7,7 +7,7 @@ use Rattle.std.proofs.lemmas.List.Elements.{All-head, All-tail}
 use Rattle.call_record.specs.Words.{word, words_from}
 use Rattle.call_tables.specs.declared.arch.Arch.{Arch}
 use Rattle.call_tables.specs.declared.numbers.Numbers.{Numbers}
-use Rattle.call_tables.specs.Machines.{aarch64_token, arm_token, loongarch64_token, ppc64le_token, riscv64_token, x86_64_token, x86_token}
+use Rattle.call_tables.specs.Machines.{aarch64_token, arm_token, loongarch64_token, ppc64le_token, riscv64_token, s390_token, s390x_token, x86_64_token, x86_token}
 use Rattle.call_tables.specs.Numbers.{IsWithin, has_call}
 use Rattle.profile.specs.Policy.{Policy}
 use Rattle.profile.specs.Said.{said}
@@ -32,6 +32,8 @@ pub record AreListed (way : Way) (ps : List Policy) (q : Policy) (named rest : L
   pub riscv64 : AreCovered named rest riscv64_token
   pub ppc64le : AreCovered named rest ppc64le_token
   pub loongarch64 : AreCovered named rest loongarch64_token
+  pub s390x : AreCovered named rest s390x_token
+  pub s390 : AreCovered named rest s390_token
   pub agree : (t n : ℕ) → is_named named t n ≡ true → AgreesOnCall way ps q t n
   pub agree_rest : (t n : ℕ) → is_named rest t n ≡ true → AgreesOnCall way ps q t n
   pub agree_foreign : AgreesOnCall way ps q 0 0
@@ -124,7 +126,14 @@ by_machine way ps q named rest token n r l fits small free of =
                 | inl is ↦ go ppc64le_token l.ppc64le is
                 | inr f ↦ elim (cases_eq token loongarch64_token) [
                   | inl is ↦ go loongarch64_token l.loongarch64 is
-                  | inr g ↦ by_none way ps q named rest token n r l (no_machine token n (no_token token a b c d e f g)) of
+                  | inr g ↦ elim (cases_eq token s390x_token) [
+                    | inl is ↦ go s390x_token l.s390x is
+                    | inr h ↦ elim (cases_eq token s390_token) [
+                      | inl is ↦ go s390_token l.s390 is
+                      | inr i ↦
+                          by_none way ps q named rest token n r l (no_machine token n (no_token token a b c d e f g h i)) of
+                    ]
+                  ]
                 ]
               ]
             ]

@@ -3,7 +3,7 @@
 use Rattle.std.specs.Prelude.{List, [], ◌∷◌, map}
 use Rattle.call_tables.specs.declared.arch.Arch.{Arch}
 use Rattle.call_tables.specs.declared.arch.Arch.TheVariants.{X86_64, Aarch64, LinuxX86_64, LinuxX86, LinuxX32}
-use Rattle.call_tables.specs.declared.arch.Arch.TheVariants.{LinuxAarch64, LinuxArm, LinuxRiscv64, LinuxPpc64le, LinuxLoongarch64}
+use Rattle.call_tables.specs.declared.arch.Arch.TheVariants.{LinuxAarch64, LinuxArm, LinuxRiscv64, LinuxPpc64le, LinuxLoongarch64, LinuxS390x, LinuxS390}
 use Rattle.widths.specs.declared.linux_arguments.TheConstants.{FIRST_CALLS, SECOND_CALLS, THIRD_CALLS, FOURTH_CALLS}
 use Rattle.widths.specs.declared.linux_arguments.TheConstants.{X32_CALLS, X86_CALLS, AARCH64_CALLS}
 use Rattle.widths.specs.Rows.{Rows}
@@ -44,7 +44,7 @@ on_x32 = x32_rows ∷ shared
 abbrev pub on_aarch64 : List Rows
 on_aarch64 = aarch64_rows ∷ shared
 
--- the tables in which a machine's calls are looked up. ARM needs none, and x86 that of one call: all their arguments have 32 bits.
+-- the tables in which a machine's calls are looked up. ARM and s390 need none, and x86 that of one call: all their arguments have 32 bits.
 abbrev pub tables_of : Arch → List Rows
 tables_of X86_64 = shared
 tables_of Aarch64 = on_aarch64
@@ -56,3 +56,5 @@ tables_of LinuxArm = []
 tables_of LinuxRiscv64 = on_aarch64
 tables_of LinuxPpc64le = on_aarch64
 tables_of LinuxLoongarch64 = shared
+tables_of LinuxS390x = shared
+tables_of LinuxS390 = []

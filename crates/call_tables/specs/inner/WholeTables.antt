@@ -2,7 +2,8 @@
 use Rattle.std.proofs.Common.{◌≡◌, true, refl}
 use Rattle.call_tables.specs.Machines.{first_rows, second_rows, third_rows, fourth_rows, linux_rows}
 use Rattle.call_tables.specs.Machines.{linux_x86_64_table, linux_x86_table, linux_x32_table, linux_aarch64_table}
-use Rattle.call_tables.specs.Machines.{linux_arm_table, linux_riscv64_table, linux_ppc64le_table, linux_loongarch64_table}
+use Rattle.call_tables.specs.Machines.{linux_arm_table, linux_riscv64_table, linux_ppc64le_table, linux_loongarch64_table, linux_s390x_table}
+use Rattle.call_tables.specs.Machines.{linux_s390_table}
 use Rattle.call_tables.specs.Table.{is_one_to_one}
 use Rattle.call_tables.specs.inner.Order.{Ascends, are_sorted}
 use Rattle.call_tables.specs.inner.OrderLaws.{ascends, one_to_one}
@@ -45,3 +46,11 @@ linux_ppc64le-one_to_one = one_to_one 6 linux_rows linux-ascends refl
 pub linux_loongarch64-one_to_one : is_one_to_one linux_loongarch64_table ≡ true
 unfolding linux_loongarch64_table first_rows second_rows third_rows fourth_rows
 linux_loongarch64-one_to_one = one_to_one 7 linux_rows linux-ascends refl
+
+pub linux_s390x-one_to_one : is_one_to_one linux_s390x_table ≡ true
+unfolding linux_s390x_table first_rows second_rows third_rows fourth_rows
+linux_s390x-one_to_one = one_to_one 8 linux_rows linux-ascends refl
+
+pub linux_s390-one_to_one : is_one_to_one linux_s390_table ≡ true
+unfolding linux_s390_table first_rows second_rows third_rows fourth_rows
+linux_s390-one_to_one = one_to_one 9 linux_rows linux-ascends refl

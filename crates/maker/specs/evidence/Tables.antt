@@ -3,7 +3,7 @@ use Rattle.std.specs.Prelude.{◌≡◌, ◌≤◌, ◌&&◌, ℕ, nat_lt, Bool,
 use Rattle.std.specs.List.{All, Contains}
 use Rattle.call_tables.specs.declared.arch.Arch.{Arch}
 use Rattle.call_tables.specs.declared.arch.Arch.TheVariants.{X86_64, Aarch64, LinuxX86_64, LinuxX86, LinuxX32}
-use Rattle.call_tables.specs.declared.arch.Arch.TheVariants.{LinuxAarch64, LinuxArm, LinuxRiscv64, LinuxPpc64le, LinuxLoongarch64}
+use Rattle.call_tables.specs.declared.arch.Arch.TheVariants.{LinuxAarch64, LinuxArm, LinuxRiscv64, LinuxPpc64le, LinuxLoongarch64, LinuxS390x, LinuxS390}
 use Rattle.call_tables.specs.Arch.{table_of}
 use Rattle.call_tables.specs.Table.{Table, name_in}
 use Rattle.profile.specs.declared.rules.Rule.{Rule}
@@ -22,6 +22,8 @@ HasSmallNumbers LinuxArm = ⊥
 HasSmallNumbers LinuxRiscv64 = Unit {0}
 HasSmallNumbers LinuxPpc64le = Unit {0}
 HasSmallNumbers LinuxLoongarch64 = Unit {0}
+HasSmallNumbers LinuxS390x = Unit {0}
+HasSmallNumbers LinuxS390 = Unit {0}
 
 -- the rule has no condition, and its number stands in the table of its machine, of which each number is small
 abbrev pub IsTableRule : Rule → Type 0

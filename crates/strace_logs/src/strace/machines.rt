@@ -19,6 +19,8 @@ pub fn machines_run(native: Arch) -> &'static [Arch]
         Arch::LinuxRiscv64 => &[Arch::LinuxRiscv64],
         Arch::LinuxPpc64le => &[Arch::LinuxPpc64le],
         Arch::LinuxLoongarch64 => &[Arch::LinuxLoongarch64],
+        Arch::LinuxS390x => &[Arch::LinuxS390x, Arch::LinuxS390],
+        Arch::LinuxS390 => &[Arch::LinuxS390],
     }
 }
 

@@ -135,6 +135,7 @@ pub(crate) fn of_name(arch: Arch, name: &str) -> Option<[Reading; 6]>
         Arch::LinuxRiscv64 => on_aarch64(name),
         Arch::LinuxPpc64le => on_aarch64(name),
         Arch::LinuxX86 => find(of_x86(), name),
-        Arch::LinuxArm => None,
+        Arch::LinuxS390x => shared(name),
+        Arch::LinuxArm | Arch::LinuxS390 => None,
     }
 }

@@ -1,5 +1,5 @@
 use Rattle.std.proofs.Common.{◌≡◌, ℕ, List, true, ap, ◌∙◌, subst}
-use Rattle.call_tables.specs.Machines.{aarch64_token, arm_token, loongarch64_token, ppc64le_token, riscv64_token, x86_64_token, x86_token}
+use Rattle.call_tables.specs.Machines.{aarch64_token, arm_token, loongarch64_token, ppc64le_token, riscv64_token, s390_token, s390x_token, x86_64_token, x86_token}
 use Rattle.differ.specs.Differences.{AreTold, IsAnswered, IsCovered}
 use Rattle.differ.specs.declared.direction.Direction.{Direction}
 use Rattle.differ.specs.declared.direction.Direction.TheVariants.{Any}
@@ -29,6 +29,8 @@ returns c =
       riscv64 = subst (λ (ns : List Call). AreCovered ns rest riscv64_token) c.deref.ensures.value c.in_ok-rest.ensures.riscv64;
       ppc64le = subst (λ (ns : List Call). AreCovered ns rest ppc64le_token) c.deref.ensures.value c.in_ok-rest.ensures.ppc64le;
       loongarch64 = subst (λ (ns : List Call). AreCovered ns rest loongarch64_token) c.deref.ensures.value c.in_ok-rest.ensures.loongarch64;
+      s390x = subst (λ (ns : List Call). AreCovered ns rest s390x_token) c.deref.ensures.value c.in_ok-rest.ensures.s390x;
+      s390 = subst (λ (ns : List Call). AreCovered ns rest s390_token) c.deref.ensures.value c.in_ok-rest.ensures.s390;
     } in
     let answered : (t n : ℕ) (e : Direction) → is_named named t n ≡ true → IsAnswered p q told t n e = λ t n e h.
     answered_stays p q _ told t n e c.in_ok-add_all_rest.ensures.extends

@@ -1,5 +1,5 @@
 use Rattle.processes.proofs.NumberLaws.{x86_64_numbers, aarch64_numbers, linux_x86_64_numbers, linux_x86_numbers, linux_x32_numbers}
-use Rattle.processes.proofs.NumberLaws.{linux_aarch64_numbers, linux_arm_numbers, linux_riscv64_numbers, linux_ppc64le_numbers, linux_loongarch64_numbers}
+use Rattle.processes.proofs.NumberLaws.{linux_aarch64_numbers, linux_arm_numbers, linux_riscv64_numbers, linux_ppc64le_numbers, linux_loongarch64_numbers, linux_s390x_numbers, linux_s390_numbers}
 use Rattle.processes.proofs.calls.numbers_of.Goals as goal
 
 pub returns-in-X86_64 : goal.returns-in-X86_64
@@ -31,3 +31,9 @@ returns-in-LinuxPpc64le c = rw c.in-LinuxPpc64le.is linux_ppc64le_numbers
 
 pub returns-in-LinuxLoongarch64 : goal.returns-in-LinuxLoongarch64
 returns-in-LinuxLoongarch64 c = rw c.in-LinuxLoongarch64.is linux_loongarch64_numbers
+
+pub returns-in-LinuxS390x : goal.returns-in-LinuxS390x
+returns-in-LinuxS390x c = rw c.in-LinuxS390x.is linux_s390x_numbers
+
+pub returns-in-LinuxS390 : goal.returns-in-LinuxS390
+returns-in-LinuxS390 c = rw c.in-LinuxS390.is linux_s390_numbers

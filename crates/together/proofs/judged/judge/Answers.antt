@@ -1,5 +1,5 @@
 use Rattle.std.proofs.Common.{List, ap, ◌∙◌, subst}
-use Rattle.call_tables.specs.Machines.{aarch64_token, arm_token, loongarch64_token, ppc64le_token, riscv64_token, x86_64_token, x86_token}
+use Rattle.call_tables.specs.Machines.{aarch64_token, arm_token, loongarch64_token, ppc64le_token, riscv64_token, s390_token, s390x_token, x86_64_token, x86_token}
 use Rattle.differ.specs.declared.named.Call.{Call}
 use Rattle.differ.specs.Named.{AreCovered, is_named}
 use Rattle.differ.proofs.BranchLaws.{ok_weaker}
@@ -23,6 +23,8 @@ returns-clause-none c =
       riscv64 = subst (λ (ns : List Call). AreCovered ns rest riscv64_token) c.deref.ensures.value c.in_ok-rest.ensures.riscv64;
       ppc64le = subst (λ (ns : List Call). AreCovered ns rest ppc64le_token) c.deref.ensures.value c.in_ok-rest.ensures.ppc64le;
       loongarch64 = subst (λ (ns : List Call). AreCovered ns rest loongarch64_token) c.deref.ensures.value c.in_ok-rest.ensures.loongarch64;
+      s390x = subst (λ (ns : List Call). AreCovered ns rest s390x_token) c.deref.ensures.value c.in_ok-rest.ensures.s390x;
+      s390 = subst (λ (ns : List Call). AreCovered ns rest s390_token) c.deref.ensures.value c.in_ok-rest.ensures.s390;
       agree = λ t n h.
           not_some c.in_ok-found.field-0 _ c.in_default.not-Some
           (c.in_ok-found.ensures.none t n (ap (λ l. is_named l t n) c.deref-2.ensures.value ∙ h));
