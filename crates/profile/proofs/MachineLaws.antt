@@ -144,7 +144,7 @@ family_in family archs machines is =
 
 -- ---- machines that are picked one by one
 
-pub few : (family : Family) → length (machines_of family) ≤ 8
+pub few : (family : Family) → length (machines_of family) ≤ 10
 few Chosen = omega arith
 few Whole = omega arith
 

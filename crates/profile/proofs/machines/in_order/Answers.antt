@@ -9,7 +9,7 @@ use Rattle.profile.proofs.machines.in_order.Goals.{then-lists, else-lists}
 
 pub push-requires : goal.push-requires
 push-requires c =
-    let room : length c.loop-arch.listed.items < 8 =
+    let room : length c.loop-arch.listed.items < 10 =
     omega (arith, few c.args.family, ap length c.machines-arch-items.ensures, c.loop-arch.invariant.1, c.loop-arch-test.true) in
     (omega arith, room)
 
