@@ -56,9 +56,9 @@ past_machine machines at calls inside =
 kept_at_most : (p : Arch → Bool) (xs : List Arch) → length (filter p xs) ≤ length xs
 kept_at_most p xs = let e = length-filter_both p (λ x. not (p x)) (λ x. refl) xs in omega (arith, e)
 
--- a profile lists eight at most
-pub eight_machines : (policy : Policy) → IsProfile policy → length policy.machines ≤ 8
-eight_machines policy is =
+-- a profile lists ten at most
+pub ten_machines : (policy : Policy) → IsProfile policy → length policy.machines ≤ 10
+ten_machines policy is =
     let order = is.machines_in_order in
     let kept = kept_at_most (λ a. list_any (same_arch a) policy.machines) (machines_of order.0) in
     omega (arith, ap length order.1, kept, few order.0)

@@ -40,7 +40,7 @@ use Rattle.certify.proofs.ActionLaws.{ends_is}
 use Rattle.certify.proofs.LeadLaws.{paths_lead}
 use Rattle.certify.proofs.LeafLaws.{call_is_record}
 use Rattle.certify.proofs.MoveLaws.{ends_cost, goes_cost, goes_held, move_of_is, some_weight}
-use Rattle.certify.proofs.RoomLaws.{eight_machines, forks_total, other_lower, taken_lower}
+use Rattle.certify.proofs.RoomLaws.{ten_machines, forks_total, other_lower, taken_lower}
 use Rattle.certify.proofs.WayLaws.{goes_inside, other_inside, taken_inside}
 
 -- ---- registers
@@ -207,7 +207,7 @@ module _ (policy : Policy) (p : List Insn) (meant : IsMeant policy p) (pc : ℕ)
 
     -- a way on at another position
     on_path : (to : ℕ) (now : Option ℕ) (more : List Lit) → HoldsCall now → AnswersThere policy p to now more → All IsOfCalls more
-        → length more + depth p to + 18 ≤ 512 → Takes policy p to (regs_of now) more (path_cost p to (calls more))
+        → length more + depth p to + 20 ≤ 512 → Takes policy p to (regs_of now) more (path_cost p to (calls more))
     on_path to now more of answers of_calls short = inl (record {
       held = now;
       regs_are = refl;
@@ -225,7 +225,7 @@ module _ (policy : Policy) (p : List Insn) (meant : IsMeant policy p) (pc : ℕ)
           (each_record_is_said_one_verdict policy (call t u) v meant.plain.clear (call_is_record t u at_t.0 at_u.0)).1
           (sym (leads (Some (Ends v)) e t u at_t at_u));
       literals = length policy.machines + 10;
-      short = let s = path.short in let five = eight_machines policy meant.profile in omega (arith, s, five);
+      short = let s = path.short in let five = ten_machines policy meant.profile in omega (arith, s, five);
       some = let cost = path.cost in let five = ends_cost p pc i path.held found v e in omega (arith, cost, five);
       stage = inl (record {
         at = 0;

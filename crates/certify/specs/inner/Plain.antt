@@ -105,7 +105,7 @@ pub record TakesOnPath (policy : Policy) (p : List Insn) (pc : ℕ) (regs : Regs
   pub of : HoldsCall held
   pub answers : AnswersThere policy p pc held known
   pub of_calls : All IsOfCalls known
-  pub short : length known + depth p pc + 18 ≤ 512
+  pub short : length known + depth p pc + 20 ≤ 512
   pub cost : path_cost p pc (inside above_all_numbers policy.machines known) ≤ nodes
 
 -- a return that was cut
