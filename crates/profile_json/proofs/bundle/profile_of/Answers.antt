@@ -1,7 +1,10 @@
 use Rattle.std.proofs.Common.{List, map, sym, ◌∙◌, ap, subst}
 use Rattle.std.specs.List.{Contains}
 use Rattle.std.proofs.lemmas.List.Elements.{All-contains}
+use Rattle.call_tables.specs.declared.arch.Arch.{Arch}
 use Rattle.call_tables.specs.Arch.{family_of}
+use Rattle.profile.specs.declared.rules.Rule.{Rule}
+use Rattle.profile.specs.Build.{IsBuiltOf}
 use Rattle.profile.proofs.MachineLaws.{all_of, family_in, stays}
 use Rattle.profile_json.specs.Parts.{EntryParts}
 use Rattle.profile_json.specs.inner.View.{entry_parts, said_parts}
@@ -60,3 +63,15 @@ unreachable-requires c =
     (all_of (family_of c.args.native) c.args.said.now.archs.items _ c.requires.of_family order)
     (lists_native c.args.native c.args.said.now.archs.items c.requires.native_listed))
     c.in-Err-NativeMissing.field-0-is c.in-Err-NativeMissing.ensures.err
+
+pub returns-in-Ok-clause-ok : goal.returns-in-Ok-clause-ok
+returns-in-Ok-clause-ok c =
+    let order = order_of c.args.native _ _ _ _ _ c.as_slice-machines.ensures.value c.in_order-listed.ensures c.family.ensures c.deref.ensures.value in
+    let entries = ap (map entry_parts) c.deref-2.ensures.value in
+    let rules : List Rule = c.in_ok-list.field-0.list.items in
+    record {
+      rules = rules;
+      rules_are = c.in_ok-list.ensures.said ∙ ap (rules_of c.as_slice-machines.result.now) entries
+          ∙ ap (λ ms. rules_of ms (said_parts c.args.said.now).entries) order;
+      built = subst (λ (ms : List Arch). IsBuiltOf c.args.native ms c.args.said.now.default_word rules c.in-Ok.profile) order c.in-Ok.ensures.ok;
+    }

@@ -1,0 +1,4 @@
+mod HalfLaws
+mod RunLaws
+mod AcceptLaws
+mod BytesLaws

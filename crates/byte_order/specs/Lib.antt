@@ -1,0 +1,2 @@
+pub mod Big
+pub mod Turned
