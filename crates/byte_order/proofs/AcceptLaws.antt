@@ -125,9 +125,9 @@ module _ (x : Insn) where
   writes_on : (w : ℕ) → WritesWord x w → WritesWord turned w
   writes_on w h =
       (on (λ o. (o ≡ Some Store) ⊎ (o ≡ Some StoreX)) h.0, same_number (no_load h.0) ∙ h.1) where
-    no_load : WritesScratch x → operation_of x.code ≡ Some LoadWord → ⊥
-    no_load (inl a) b = let c : Some LoadWord ≡ Some Store = sym b ∙ a in cc
-    no_load (inr a) b = let c : Some LoadWord ≡ Some StoreX = sym b ∙ a in cc
+        no_load : WritesScratch x → operation_of x.code ≡ Some LoadWord → ⊥
+        no_load (inl a) b = let c : Some LoadWord ≡ Some Store = sym b ∙ a in cc
+        no_load (inr a) b = let c : Some LoadWord ≡ Some StoreX = sym b ∙ a in cc
 
   hands_back : (w i next : ℕ) → HandsOn turned w i next → HandsOn x w i next
   hands_back w i next h =
@@ -152,9 +152,9 @@ cause_by p i Load x h = no_word (operation_of x.code) x (back x (λ o. NamesNoWo
 cause_by p i Shift x h =
     let shifts = back x (λ o. (o ≡ Some ShiftLeft) ⊎ (o ≡ Some ShiftRight)) h.0 in
     (shifts, subst (λ k. 32 ≤ k) (same_number x (no_load shifts)) h.1) where
-  no_load : (operation_of x.code ≡ Some ShiftLeft) ⊎ (operation_of x.code ≡ Some ShiftRight) → operation_of x.code ≡ Some LoadWord → ⊥
-  no_load (inl a) b = let c : Some LoadWord ≡ Some ShiftLeft = sym b ∙ a in cc
-  no_load (inr a) b = let c : Some LoadWord ≡ Some ShiftRight = sym b ∙ a in cc
+      no_load : (operation_of x.code ≡ Some ShiftLeft) ⊎ (operation_of x.code ≡ Some ShiftRight) → operation_of x.code ≡ Some LoadWord → ⊥
+      no_load (inl a) b = let c : Some LoadWord ≡ Some ShiftLeft = sym b ∙ a in cc
+      no_load (inr a) b = let c : Some LoadWord ≡ Some ShiftRight = sym b ∙ a in cc
 cause_by p i Target x h =
     leads_out (operation_of x.code) (length p) i x
     (subst (λ n. LeadsOut (operation_of x.code) n i (other_half x)) (length-map p other_half)
@@ -164,9 +164,9 @@ cause_by p i End x h =
 cause_by p i Scratch x h =
     let reads = back x (λ o. (o ≡ Some LoadScratch) ⊎ (o ≡ Some LoadScratchX)) h.0 in
     (reads, subst (λ k. Unwritten p k i) (same_number x (no_load reads)) (unwritten p (other_half x).k i h.1)) where
-  no_load : ReadsScratch x → operation_of x.code ≡ Some LoadWord → ⊥
-  no_load (inl a) b = let c : Some LoadWord ≡ Some LoadScratch = sym b ∙ a in cc
-  no_load (inr a) b = let c : Some LoadWord ≡ Some LoadScratchX = sym b ∙ a in cc
+      no_load : ReadsScratch x → operation_of x.code ≡ Some LoadWord → ⊥
+      no_load (inl a) b = let c : Some LoadWord ≡ Some LoadScratch = sym b ∙ a in cc
+      no_load (inr a) b = let c : Some LoadWord ≡ Some LoadScratchX = sym b ∙ a in cc
 
 cause_back : (p : List Insn) (i : ℕ) (c : Cause) → HasCause (map other_half p) i c → HasCause p i c
 cause_back p i c (y, at, h) =

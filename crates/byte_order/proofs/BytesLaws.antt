@@ -4,6 +4,7 @@ use Rattle.std.specs.Prelude.{Option, Some, None, map, slice_get}
 use Rattle.std.specs.List.{All, AllByRecursion, flat_map}
 use Rattle.std.proofs.lemmas.Grind.{flat_map-append}
 use Rattle.std.proofs.lemmas.List.{append-nil, take_more}
+use Rattle.std.proofs.lemmas.List.Elements.{recursion_from_All}
 use Rattle.std.proofs.lemmas.Slice.{take-put_mid}
 use borrow.Rule.Slice.PartMut.{put_mid}
 use Rattle.bpf_insn.specs.declared.code.Operation.{Operation}
@@ -17,7 +18,7 @@ use Rattle.bpf_insn.specs.Code.{operation_of}
 use Rattle.bpf_insn.proofs.BytesLemmas as lemmas
 use Rattle.byte_order.specs.Big as big
 use Rattle.byte_order.specs.Turned.{other_half, other_half_by, other_word}
-use Rattle.byte_order.proofs.HalfLaws.{code_same, other_stays}
+use Rattle.byte_order.proofs.HalfLaws.{other_fits}
 
 -- ---- what stands in bytes
 
@@ -75,3 +76,52 @@ little_back [] h = refl
 little_back (i ∷ p) h =
     ap (λ first. first ∷ little.insns_of (little.spelling p)) (lemmas.at_once i h.0.code h.0.k) ∙ ap (λ rest. i ∷ rest) (little_back p h.1)
 
+-- ---- what is read has each field within its width
+
+half_in : (o : Option Operation) (i : Insn) → IsInsn i → IsInsn (other_half_by o i)
+half_in None i h = h
+half_in (Some LoadWord) i h = record { code = h.code; jt = h.jt; jf = h.jf; k = other_fits i.k h.k }
+half_in (Some LoadScratch) i h = h
+half_in (Some LoadScratchX) i h = h
+half_in (Some Store) i h = h
+half_in (Some StoreX) i h = h
+half_in (Some SetA) i h = h
+half_in (Some SetX) i h = h
+half_in (Some ReturnK) i h = h
+half_in (Some ReturnA) i h = h
+half_in (Some Jump) i h = h
+half_in (Some (Branch test c)) i h = h
+half_in (Some (Compute f c)) i h = h
+half_in (Some ShiftLeft) i h = h
+half_in (Some ShiftRight) i h = h
+half_in (Some Negate) i h = h
+half_in (Some CopyToX) i h = h
+half_in (Some CopyToA) i h = h
+
+halves_in : (p : List Insn) → AllByRecursion IsInsn p → AllByRecursion IsInsn (map other_half p)
+halves_in [] h = tt
+halves_in (i ∷ p) h = (half_in (operation_of i.code) i h.0, halves_in p h.1)
+
+big_ranged : (bs : List ℕ) → AllByRecursion (λ b. b < 2 ^ 8) bs → AllByRecursion IsInsn (big.insns_of bs)
+big_ranged (b0 ∷ b1 ∷ b2 ∷ b3 ∷ b4 ∷ b5 ∷ b6 ∷ b7 ∷ rest) (h0, (h1, (h2, (h3, (h4, (h5, (h6, (h7, more)))))))) = (
+  record { code = omega (arith, h0, h1); jt = h2; jf = h3; k = omega (arith, h4, h5, h6, h7) },
+  big_ranged rest more,
+)
+big_ranged bs h = tt
+
+little_ranged : (bs : List ℕ) → AllByRecursion (λ b. b < 2 ^ 8) bs → AllByRecursion IsInsn (little.insns_of bs)
+little_ranged (b0 ∷ b1 ∷ b2 ∷ b3 ∷ b4 ∷ b5 ∷ b6 ∷ b7 ∷ rest) (h0, (h1, (h2, (h3, (h4, (h5, (h6, (h7, more)))))))) = (
+  record { code = omega (arith, h0, h1); jt = h2; jf = h3; k = omega (arith, h4, h5, h6, h7) },
+  little_ranged rest more,
+)
+little_ranged bs h = tt
+
+pub little_read : (file : List ℕ) → AreBytes file
+    → little.insns_of (little.spelling (map other_half (big.insns_of file))) ≡ map other_half (big.insns_of file)
+little_read file bytes =
+    little_back (map other_half (big.insns_of file)) (halves_in (big.insns_of file) (big_ranged file (recursion_from_All _ file bytes)))
+
+pub big_written : (filter : List ℕ) → AreBytes filter
+    → big.insns_of (big.spelling (map other_half (little.insns_of filter))) ≡ map other_half (little.insns_of filter)
+big_written filter bytes =
+    big_back (map other_half (little.insns_of filter)) (halves_in (little.insns_of filter) (little_ranged filter (recursion_from_All _ filter bytes)))

@@ -214,3 +214,12 @@ other_stays k within e = elim (cases_lt k 8) [
         subst (λ n. (n < 64) × (n % 4 ≡ 0)) (sym is) (omega (arith, within), omega (arith, half, e))
   ]
 ]
+
+pub other_fits : (k : ℕ) → k < 2 ^ 32 → other_word k < 2 ^ 32
+other_fits k fits = elim (cases_lt k 64) [
+  | inr past ↦ subst (λ n. n < 2 ^ 32) (sym (large_same k past)) fits
+  | inl within ↦ elim (cases_eq (k % 4) 0) [
+    | inr skew ↦ subst (λ n. n < 2 ^ 32) (sym (skew_same k skew)) fits
+    | inl e ↦ let stays = other_stays k within e in omega (arith, stays.0)
+  ]
+]

@@ -2,3 +2,5 @@ mod HalfLaws
 mod RunLaws
 mod AcceptLaws
 mod BytesLaws
+mod SameLaws
+pub mod ReadLaws

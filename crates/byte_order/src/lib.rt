@@ -10,4 +10,4 @@ mod law;
 mod turned;
 
 pub use law::filters_mean_the_same;
-pub use turned::{big_filter, little_filter};
+pub use turned::{read_as, written_as};
