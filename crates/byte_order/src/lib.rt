@@ -10,4 +10,4 @@ mod law;
 mod turned;
 
 pub use law::filters_mean_the_same;
-pub use turned::{read_as, written_as};
+pub use turned::{each_read_as, read_as, written_as};

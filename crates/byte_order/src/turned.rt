@@ -32,48 +32,73 @@ fn write_big(filter: &[u8], file: &mut [u8])
     }
 }
 
+// The same bytes.
+fn copied(alloc: Global, bytes: &[u8]) -> Result<Vec<u8>, AllocError>
+    ensures { IfOk result (λ copy. copy.items ≡ bytes.now) }
+{
+    let mut copy = Vec::new(alloc);
+    copy.extend_from_slice(bytes)?;
+    Ok(copy)
+}
+
 // The filter of a big-endian machine's file. Bytes that are no whole instructions stay as they are.
-fn little_filter(alloc: Global, file: Vec<u8>) -> Result<Vec<u8>, AllocError>
-    ensures { IfOk result (λ filter. filter.items ≡ little_filter file.items) }
+fn little_filter(alloc: Global, file: &[u8]) -> Result<Vec<u8>, AllocError>
+    ensures { IfOk result (λ filter. filter.items ≡ little_filter file.now) }
 {
     if file.len() % 8 != 0 {
-        return Ok(file);
+        return copied(alloc, file);
     }
     let mut filter = vec![in alloc; 0u8; file.len()]?;
-    write_little(&file, &mut filter);
+    write_little(file, &mut filter);
     Ok(filter)
 }
 
 // The other way round.
-fn big_filter(alloc: Global, filter: Vec<u8>) -> Result<Vec<u8>, AllocError>
-    ensures { IfOk result (λ file. file.items ≡ big_filter filter.items) }
+fn big_filter(alloc: Global, filter: &[u8]) -> Result<Vec<u8>, AllocError>
+    ensures { IfOk result (λ file. file.items ≡ big_filter filter.now) }
 {
     if filter.len() % 8 != 0 {
-        return Ok(filter);
+        return copied(alloc, filter);
     }
     let mut file = vec![in alloc; 0u8; filter.len()]?;
-    write_big(&filter, &mut file);
+    write_big(filter, &mut file);
     Ok(file)
 }
 
 /// The filter that a file has for a machine.
-pub fn read_as(alloc: Global, native: Arch, file: Vec<u8>) -> Result<Vec<u8>, AllocError>
-    ensures { IfOk result (λ filter. filter.items ≡ read_as native file.items) }
+pub fn read_as(alloc: Global, native: Arch, file: &[u8]) -> Result<Vec<u8>, AllocError>
+    ensures { IfOk result (λ filter. filter.items ≡ read_as native file.now) }
 {
     if native.is_big_endian() {
         little_filter(alloc, file)
     } else {
-        Ok(file)
+        copied(alloc, file)
     }
 }
 
+/// The filters that files have for a machine.
+pub fn each_read_as(
+    alloc: Global,
+    native: Arch,
+    files: &[Vec<u8>],
+) -> Result<Vec<Vec<u8>>, AllocError>
+    ensures { IfOk result
+        (λ filters. map (λ f. f.items) filters.items ≡ map (read_as native) (map (λ f. f.items) files.now)) }
+{
+    let mut filters = Vec::new(alloc);
+    for file in files {
+        filters.push(read_as(alloc, native, file)?)?;
+    }
+    Ok(filters)
+}
+
 /// The file that has a filter for a machine.
-pub fn written_as(alloc: Global, native: Arch, filter: Vec<u8>) -> Result<Vec<u8>, AllocError>
-    ensures { IfOk result (λ file. file.items ≡ written_as native filter.items) }
+pub fn written_as(alloc: Global, native: Arch, filter: &[u8]) -> Result<Vec<u8>, AllocError>
+    ensures { IfOk result (λ file. file.items ≡ written_as native filter.now) }
 {
     if native.is_big_endian() {
         big_filter(alloc, filter)
     } else {
-        Ok(filter)
+        copied(alloc, filter)
     }
 }

@@ -14,7 +14,7 @@ use Rattle.aside.specs.Judged.{AreLeftOut, IsLeftOut}
 use Rattle.aside.specs.Told.{AreFoundBut, CertifiesBut, CertifiesBy}
 use Rattle.cli.specs.declared.stops.Stop.{Stop}
 use Rattle.cli.specs.Dispatch.{AnswersBut, StopsAt}
-use Rattle.cli.specs.Files.{Folder, HasBundle, HasBytes, HasEnough, IsEnough}
+use Rattle.cli.specs.Files.{Folder, HasBundle, HasBytes, HasEnoughFilter, HasFilter, IsEnough}
 use Rattle.cli.specs.Running.{told_line}
 use Rattle.cli.proofs.DispatchLaws.{second}
 use Rattle.cli.proofs.EnoughLaws.{whole_filter}
@@ -85,17 +85,17 @@ module _ {O : Type 0} (held : O → Option (List ℕ)) (failures : O → Failure
       unwritten = refl;
     })
 
-    pub but_done : (f : List ℕ) → HasEnough 32768 later filter f → (new : O) (answer : Result Bool WriteFault) (result : Result Bool Stop)
+    pub but_done : (f : List ℕ) → HasEnoughFilter native later filter f → (new : O) (answer : Result Bool WriteFault) (result : Result Bool Stop)
         → CertifiesBut held failures old new native b f leave answer → result ≡ told_line answer
         → AnswersBut held failures folder old new native bundle filter leave result
     but_done f of_filter new answer result h e = inr (
       b,
-      of_filter.file,
+      of_filter.filter,
       of_bundle,
-      subst (λ (d : Option Folder). HasBytes d filter of_filter.file) same_folder of_filter.is,
+      subst (λ (d : Option Folder). HasFilter native d filter of_filter.filter) same_folder of_filter.has,
       record {
         answer = answer;
-        written = but_of_file native b of_filter.file f of_filter.enough leave held failures old new answer h;
+        written = but_of_file native b of_filter.filter f of_filter.enough leave held failures old new answer h;
         told = e;
       },
     )

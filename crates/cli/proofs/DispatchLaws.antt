@@ -4,6 +4,8 @@ use Rattle.std.proofs.lemmas.List.{get_or_default, map-append, take_more}
 use denote.Ref.{Bor}
 use Rattle.std.specs.Prelude.{Bool, true, false, IfOk, Option, None, Some, Result, Ok, Err}
 use Rattle.call_tables.specs.declared.arch.Arch.{Arch}
+use Rattle.call_tables.specs.Arch.{is_big_endian}
+use Rattle.byte_order.specs.Turned.{read_as}
 use Rattle.texts.specs.Failures.{Failures}
 use Rattle.texts.specs.declared.streams.fault.WriteFault.{WriteFault}
 use Rattle.export.specs.declared.form.Form.{Form}
@@ -19,7 +21,7 @@ use Rattle.maker.specs.Finding.{WritesFinding}
 use Rattle.cli.specs.declared.stops.Stop.{Stop}
 use Rattle.cli.specs.declared.stops.Stop.TheVariants.{Usage}
 use Rattle.cli.specs.Dispatch.{AnswersAdapt, AnswersAll, AnswersBehind, AnswersCertify, AnswersCheck, AnswersExport, AnswersManual, AnswersReplay}
-use Rattle.cli.specs.Dispatch.{AnswersAllBehind, AnswersCombined, AnswersStack}
+use Rattle.cli.specs.Dispatch.{AnswersAllBehind, AnswersCombined, AnswersStack, ExportsFor}
 use Rattle.cli.specs.Dispatch.{AnswersTold, AnswersVerdict, ExplainsAllBehind, StopsAtWords}
 use Rattle.cli.specs.Adapted.{AskNothing, IsMadeAs}
 use Rattle.cli.specs.Combined.{TellsCombined, TellsStack}
@@ -32,7 +34,7 @@ use Rattle.cli.specs.Dispatch.{any_call, explained_as, ExplainsBehind, FirstUnre
 use Rattle.cli.specs.inner.Telling.{IsAdaptedOf, IsBundleOf, IsCombinedOf, IsInForm, IsManualOf, IsReplayOf, IsStackOf, IsToldOf, TellsOn, TellsText, told_in}
 use Rattle.together.specs.declared.way.Way.{Way}
 use Rattle.cli.specs.Explained.{TellsAllBehind, TellsBehind}
-use Rattle.cli.specs.Files.{Folder, HasBundle, HasBytes, HasEnough}
+use Rattle.cli.specs.Files.{Folder, HasBundle, HasBytes, HasEnough, HasEnoughFilter, HasFilter}
 use Rattle.cli.specs.Running.{told_line}
 use Rattle.cli.proofs.FormLaws.{stopped_in, told_in_form}
 use Rattle.cli.proofs.TurnLaws.{cut_at}
@@ -92,10 +94,10 @@ module _ {O : Type 0} (held : O → Option (List ℕ)) (failures : O → Failure
         → AnswersExport held failures folder old old native bundle form result
     export_first form stop result h e = inl (record { stop = stop; at = inl h; told = e; unwritten = refl })
 
-    pub export_done : (form : Form) (new : O) (b : List ℕ) (answer : Result Bool WriteFault) (result : Result Bool Stop)
-        → HasBundle native folder bundle b → Exports held failures old new native b form answer → result ≡ told_line answer
+    pub export_done : (form : Form) (new : O) (b : List ℕ) (result : Result Bool Stop) → HasBundle native folder bundle b
+        → ExportsFor held failures old new (is_big_endian native) native b form result
         → AnswersExport held failures folder old new native bundle form result
-    export_done form new b answer result of_bundle h e = inr (b, of_bundle, record { answer = answer; written = h; told = e })
+    export_done form new b result of_bundle h = inr (b, of_bundle, h)
 
     module _ (filter : List ℕ) where
       pub certify_first : (stop : Stop) (result : Result Bool Stop) → StopsAt folder bundle stop → result ≡ Err stop
@@ -144,37 +146,37 @@ module _ {O : Type 0} (held : O → Option (List ℕ)) (failures : O → Failure
             → AnswersCheck held failures folder old old native bundle filter cert result
         check_second cert stop result h e = inl (record { stop = stop; at = second (cert ∷ []) stop h; told = e; unwritten = refl })
 
-        module _ (f : List ℕ) (of_filter : HasEnough 32768 later filter f) where
-          has_filter : HasBytes folder filter of_filter.file
-          has_filter = subst (λ d. HasBytes d filter of_filter.file) same of_filter.is
+        module _ (f : List ℕ) (of_filter : HasEnoughFilter native later filter f) where
+          has_filter : HasFilter native folder filter of_filter.filter
+          has_filter = subst (λ d. HasFilter native d filter of_filter.filter) same of_filter.has
 
           pub certify_done : (new : O) (answer : Result Bool WriteFault) (result : Result Bool Stop)
               → Certifies held failures old new native b f answer → result ≡ told_line answer
               → AnswersCertify held failures folder old new native bundle filter result
           certify_done new answer result h e = inr (
             b,
-            of_filter.file,
+            of_filter.filter,
             of_bundle,
             has_filter,
             record {
               answer = answer;
-              written = certified_of_file native b of_filter.file f of_filter.enough held failures old new answer h;
+              written = certified_of_file native b of_filter.filter f of_filter.enough held failures old new answer h;
               told = e;
             },
           )
 
           all_of : (new : O) (answer : Result Bool WriteFault)
               → Certifies held failures old new native b f answer ⊎ TellsAll held failures old new native b f answer
-              → Certifies held failures old new native b of_filter.file answer ⊎ TellsAll held failures old new native b of_filter.file answer
-          all_of new answer (inl h) = inl (certified_of_file native b of_filter.file f of_filter.enough held failures old new answer h)
-          all_of new answer (inr h) = inr (tells_all_of_file native b of_filter.file f of_filter.enough held failures old new answer h)
+              → Certifies held failures old new native b of_filter.filter answer ⊎ TellsAll held failures old new native b of_filter.filter answer
+          all_of new answer (inl h) = inl (certified_of_file native b of_filter.filter f of_filter.enough held failures old new answer h)
+          all_of new answer (inr h) = inr (tells_all_of_file native b of_filter.filter f of_filter.enough held failures old new answer h)
 
           pub all_done : (new : O) (answer : Result Bool WriteFault) (result : Result Bool Stop)
               → Certifies held failures old new native b f answer ⊎ TellsAll held failures old new native b f answer
               → result ≡ told_line answer → AnswersAll held failures folder old new native bundle filter result
           all_done new answer result h e = inr (
             b,
-            of_filter.file,
+            of_filter.filter,
             of_bundle,
             has_filter,
             record { answer = answer; written = all_of new answer h; told = e },
@@ -185,12 +187,12 @@ module _ {O : Type 0} (held : O → Option (List ℕ)) (failures : O → Failure
               → AnswersBehind held failures folder old new native bundle filter result
           behind_done new answer result h e = inr (
             b,
-            of_filter.file,
+            of_filter.filter,
             of_bundle,
             has_filter,
             record {
               answer = answer;
-              written = behind_of_file native b of_filter.file f of_filter.enough held failures old new answer h;
+              written = behind_of_file native b of_filter.filter f of_filter.enough held failures old new answer h;
               told = e;
             },
           )
@@ -200,12 +202,12 @@ module _ {O : Type 0} (held : O → Option (List ℕ)) (failures : O → Failure
               → AnswersAllBehind held failures folder old new native bundle filter result
           all_behind_done new answer result h e = inr (
             b,
-            of_filter.file,
+            of_filter.filter,
             of_bundle,
             has_filter,
             record {
               answer = answer;
-              written = all_behind_of_file native b of_filter.file f of_filter.enough held failures old new answer h;
+              written = all_behind_of_file native b of_filter.filter f of_filter.enough held failures old new answer h;
               told = e;
             },
           )
@@ -215,10 +217,10 @@ module _ {O : Type 0} (held : O → Option (List ℕ)) (failures : O → Failure
               → ExplainsAllBehind held failures shown dropped folder old new err err' native bundle filter (Ok done)
           all_behind_told shown dropped err err' new done h = (
             b,
-            of_filter.file,
+            of_filter.filter,
             of_bundle,
             has_filter,
-            tells_all_behind_of_file native b of_filter.file f of_filter.enough held failures old new (Ok done) shown dropped err err' h,
+            tells_all_behind_of_file native b of_filter.filter f of_filter.enough held failures old new (Ok done) shown dropped err err' h,
           )
 
           -- what is told on standard error
@@ -227,10 +229,10 @@ module _ {O : Type 0} (held : O → Option (List ℕ)) (failures : O → Failure
               → ExplainsBehind held failures shown dropped folder old new err err' native bundle filter (Ok done)
           behind_told shown dropped err err' new done h = (
             b,
-            of_filter.file,
+            of_filter.filter,
             of_bundle,
             has_filter,
-            tells_of_file native b of_filter.file f of_filter.enough held failures old new (Ok done) shown dropped err err' h,
+            tells_of_file native b of_filter.filter f of_filter.enough held failures old new (Ok done) shown dropped err err' h,
           )
 
           module _ (cert : List ℕ) (last : Option Folder) (still : last ≡ later) where
@@ -238,7 +240,7 @@ module _ {O : Type 0} (held : O → Option (List ℕ)) (failures : O → Failure
                 → AnswersCheck held failures folder old old native bundle filter cert result
             check_third stop result h e = inl (record {
               stop = stop;
-              at = behind folder bundle of_bundle.file (filter ∷ cert ∷ []) stop of_bundle.is (behind folder filter of_filter.file (cert ∷ []) stop has_filter
+              at = behind folder bundle of_bundle.file (filter ∷ cert ∷ []) stop of_bundle.is (behind folder filter has_filter.file (cert ∷ []) stop has_filter.is
                   (inl (subst (λ d. StopsAt d cert stop) same (subst (λ d. StopsAt d cert stop) still h))));
               told = e;
               unwritten = refl;
@@ -251,14 +253,14 @@ module _ {O : Type 0} (held : O → Option (List ℕ)) (failures : O → Failure
                 let has_cert = subst (λ d. HasEnough 4194304 d cert c) same (subst (λ d. HasEnough 4194304 d cert c) still of_cert) in
                 inr (
                   b,
-                  of_filter.file,
+                  of_filter.filter,
                   c,
                   of_bundle,
                   has_filter,
                   has_cert,
                   record {
                     answer = answer;
-                    written = check_of_file native b of_filter.file f of_filter.enough held failures old new c answer h;
+                    written = check_of_file native b of_filter.filter f of_filter.enough held failures old new c answer h;
                     told = e;
                   },
                 )
@@ -316,7 +318,7 @@ module _ {O : Type 0} (held : O → Option (List ℕ)) (failures : O → Failure
     is.filters,
     is.as_bundle,
     is.named,
-    answers_told held failures folder is.filters (λ texts. WritesMade native is.as_bundle (TellsStack native texts)) old new result (told_in both)
+    answers_told held failures folder is.filters (λ files. WritesMade native is.as_bundle (TellsStack native (map (read_as native) files))) old new result (told_in both)
         is.is h,
   )
 

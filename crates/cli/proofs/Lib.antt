@@ -1,3 +1,4 @@
+mod OrderLaws
 mod TurnLaws
 mod RunLaws
 mod HeadlineLaws

@@ -1,8 +1,9 @@
 -- THE PROGRAM. What it writes and the status that it ends with, of a command, of files, and of what is read on standard input.
 use Rattle.std.specs.Prelude.{ℕ, ◌≡◌, ◌⊎◌, ◌||◌, Bool, true, false, List, [], ◌∷◌, ◌++◌, codes}
-use Rattle.std.specs.Prelude.{if◌then◌else◌, Option, Some, None, Result, Ok, Err}
+use Rattle.std.specs.Prelude.{if◌then◌else◌, map, Option, Some, None, Result, Ok, Err}
 use Rattle.std.specs.Str.{bytes_eq}
 use Rattle.call_tables.specs.declared.arch.Arch.{Arch}
+use Rattle.call_tables.specs.Arch.{is_big_endian}
 use Rattle.command_line.specs.Lines.{Given, IsCommandLine, NoCommandLine, command_of, texts}
 use denote.Ref.{Bor}
 use Rattle.command_line.specs.declared.prose.Command.{Command}
@@ -13,6 +14,7 @@ use Rattle.command_line.specs.declared.prose.Command.TheVariants.{Json, Manual, 
 use Rattle.aside.specs.declared.leave.Leave.{Leave}
 use Rattle.aside.specs.Told.{CertifiesBut}
 use Rattle.cli.specs.Parts.{Parts, form_of, part, parts_of}
+use Rattle.byte_order.specs.Turned.{read_as}
 use Rattle.texts.specs.Failures.{Failures}
 use Rattle.texts.specs.Sink.{StopsAt as StopsWriting, Wrote}
 use Rattle.texts.specs.declared.streams.fault.WriteFault.{WriteFault}
@@ -52,9 +54,10 @@ use Rattle.together.specs.declared.way.Way.TheVariants.{Laxest, Strictest}
 use Rattle.cli.specs.Told.{IsManual, IsNoCommand, IsReplayed, NamesLogs, of_none, of_one, of_two, OfArguments, OfBundle, OfBundles, OfEach}
 use Rattle.cli.specs.Widened.{TellsWidened, from_in, rest_of}
 use Rattle.cli.specs.Written.{NamesForm, WritesMade}
-use Rattle.cli.specs.Files.{CannotBeRead, Folder, HasBundle, HasBytes, HasEnough}
+use Rattle.cli.specs.Files.{CannotBeRead, Folder, HasBundle, HasBytes, HasEnough, HasFilter}
 use Rattle.cli.specs.Input.{StopsInput}
-use Rattle.cli.specs.Json.{Kept, WritesObjects, is_json, kept, kept_failures}
+use Rattle.cli.specs.Exported.{TellsExported}
+use Rattle.cli.specs.Json.{Kept, TellsObjects, WritesObjects, is_json, kept, kept_failures}
 use Rattle.cli.specs.Running.{RunsBundles, told_line}
 use Rattle.cli.specs.Stop.{ReportsOn, status_of}
 
@@ -194,6 +197,17 @@ WritesTold held failures old new told (Err Refused) = Wrote held failures old ne
 WritesTold held failures old new told (Err (Write out)) = StopsWriting held failures old new told.bytes.items out
 WritesTold held failures old new told (Err other) = ⊥
 
+-- For a big-endian machine the file is turned in memory, and written once it is whole; otherwise the filter is written at once.
+module _ {O : Type 0} (held : O → Option (List ℕ)) (failures : O → Failures) (old new : O) where
+  abbrev pub ExportsTurned : Arch → List ℕ → Form → Result Bool Stop → Type 0
+  ExportsTurned native bundle form result =
+      ((result ≡ Err OutOfMemory) × (new ≡ old))
+      ⊎ ((told : Told) × TellsExported native form bundle told × TellsObjects held failures old new told.bytes.items (Ok told.done) result)
+
+  abbrev pub ExportsFor : Bool → Arch → List ℕ → Form → Result Bool Stop → Type 0
+  ExportsFor true native bundle form result = ExportsTurned native bundle form result
+  ExportsFor false native bundle form result = AnswersBy (Exports held failures old new native bundle form) result
+
 -- what the commands write that judge the bytes of files
 module _ {O : Type 0} (held : O → Option (List ℕ)) (failures : O → Failures) (folder : Option Folder) (old new : O) where
   abbrev pub AnswersVerdict : List ℕ → List ℕ → Result Bool Stop → Type 0
@@ -206,32 +220,32 @@ module _ {O : Type 0} (held : O → Option (List ℕ)) (failures : O → Failure
   abbrev pub AnswersCheck : Arch → List ℕ → List ℕ → List ℕ → Result Bool Stop → Type 0
   AnswersCheck native bundle filter cert result =
       StopsAtFile folder old new (bundle ∷ filter ∷ cert ∷ []) result
-      ⊎ ((b : List ℕ) × (f : List ℕ) × (c : List ℕ) × HasBundle native folder bundle b × HasBytes folder filter f
+      ⊎ ((b : List ℕ) × (f : List ℕ) × (c : List ℕ) × HasBundle native folder bundle b × HasFilter native folder filter f
       × HasEnough 4194304 folder cert c × AnswersBy (WritesFinding held failures old new native b f c) result)
 
   abbrev pub AnswersCertify : Arch → List ℕ → List ℕ → Result Bool Stop → Type 0
   AnswersCertify native bundle filter result =
       StopsAtFile folder old new (bundle ∷ filter ∷ []) result
-      ⊎ ((b : List ℕ) × (f : List ℕ) × HasBundle native folder bundle b × HasBytes folder filter f
+      ⊎ ((b : List ℕ) × (f : List ℕ) × HasBundle native folder bundle b × HasFilter native folder filter f
       × AnswersBy (Certifies held failures old new native b f) result)
 
   abbrev pub AnswersBehind : Arch → List ℕ → List ℕ → Result Bool Stop → Type 0
   AnswersBehind native bundle filter result =
       StopsAtFile folder old new (bundle ∷ filter ∷ []) result
-      ⊎ ((b : List ℕ) × (f : List ℕ) × HasBundle native folder bundle b × HasBytes folder filter f
+      ⊎ ((b : List ℕ) × (f : List ℕ) × HasBundle native folder bundle b × HasFilter native folder filter f
       × AnswersBy (CertifiesBehind held failures old new native b f) result)
 
   abbrev pub AnswersAllBehind : Arch → List ℕ → List ℕ → Result Bool Stop → Type 0
   AnswersAllBehind native bundle filter result =
       StopsAtFile folder old new (bundle ∷ filter ∷ []) result
-      ⊎ ((b : List ℕ) × (f : List ℕ) × HasBundle native folder bundle b × HasBytes folder filter f
+      ⊎ ((b : List ℕ) × (f : List ℕ) × HasBundle native folder bundle b × HasFilter native folder filter f
       × AnswersBy (CertifiesAllBehind held failures old new native b f) result)
 
   -- with `all` what it writes without, or the lines of records that convict the filter
   abbrev pub AnswersAll : Arch → List ℕ → List ℕ → Result Bool Stop → Type 0
   AnswersAll native bundle filter result =
       StopsAtFile folder old new (bundle ∷ filter ∷ []) result
-      ⊎ ((b : List ℕ) × (f : List ℕ) × HasBundle native folder bundle b × HasBytes folder filter f
+      ⊎ ((b : List ℕ) × (f : List ℕ) × HasBundle native folder bundle b × HasFilter native folder filter f
       × AnswersBy (λ answer. Certifies held failures old new native b f answer
       ⊎ TellsAll held failures old new native b f answer) result)
 
@@ -239,13 +253,13 @@ module _ {O : Type 0} (held : O → Option (List ℕ)) (failures : O → Failure
   abbrev pub AnswersBut : Arch → List ℕ → List ℕ → Leave → Result Bool Stop → Type 0
   AnswersBut native bundle filter leave result =
       StopsAtFile folder old new (bundle ∷ filter ∷ []) result
-      ⊎ ((b : List ℕ) × (f : List ℕ) × HasBundle native folder bundle b × HasBytes folder filter f
+      ⊎ ((b : List ℕ) × (f : List ℕ) × HasBundle native folder bundle b × HasFilter native folder filter f
       × AnswersBy (CertifiesBut held failures old new native b f leave) result)
 
   abbrev pub AnswersExport : Arch → List ℕ → Form → Result Bool Stop → Type 0
   AnswersExport native bundle form result =
       StopsAtFile folder old new (bundle ∷ []) result
-      ⊎ ((b : List ℕ) × HasBundle native folder bundle b × AnswersBy (Exports held failures old new native b form) result)
+      ⊎ ((b : List ℕ) × HasBundle native folder bundle b × ExportsFor held failures old new (is_big_endian native) native b form result)
 
   -- A command that tells: its files are read, and what is so of their bytes is told and written.
   abbrev pub AnswersTold : List (List ℕ) → (List (List ℕ) → Told → Type 0) → Result Bool Stop → Type 0
@@ -273,7 +287,7 @@ module _ {O : Type 0} (held : O → Option (List ℕ)) (failures : O → Failure
 
   -- what `compare` tells, by whether `filters` stands behind the files
   abbrev pub AnswersCompare : Bool → Parts → Result Bool Stop → Type 0
-  AnswersCompare true p result = AnswersTold (p.two ∷ p.three ∷ []) (of_two IsTold) result
+  AnswersCompare true p result = AnswersTold (p.two ∷ p.three ∷ []) (of_two (λ old new. IsTold (read_as p.native old) (read_as p.native new))) result
   AnswersCompare false p result = AnswersTold (p.two ∷ p.three ∷ [])
       (of_two (OfBundles p.native (TellsCompared (bytes_eq p.four (codes "atmost")) p.native))) result
 
@@ -342,7 +356,8 @@ module _ {O : Type 0} (held : O → Option (List ℕ)) (failures : O → Failure
   -- the profile that a filter means, in the form that the words ask for, and for the calls for which they do
   abbrev pub AnswersRecovered : Arch → List (List ℕ) → List ℕ → Result Bool Stop → Type 0
   AnswersRecovered native words filter result =
-      AnswersTold (filter ∷ []) (of_one (λ text. WritesMade native (has_word (codes "bundle") words) (TellsAsked native words text))) result
+      AnswersTold (filter ∷ [])
+      (of_one (λ file. WritesMade native (has_word (codes "bundle") words) (TellsAsked native words (read_as native file)))) result
 
   -- the profile that bundles mean together, in the form that the words ask for
   abbrev pub AnswersCombined : Arch → Way → List (List ℕ) → Result Bool Stop → Type 0
@@ -354,7 +369,7 @@ module _ {O : Type 0} (held : O → Option (List ℕ)) (failures : O → Failure
   abbrev pub AnswersStack : Arch → List (List ℕ) → Result Bool Stop → Type 0
   AnswersStack native words result =
       (filters : List (List ℕ)) × (as_bundle : Bool) × NamesForm words filters as_bundle
-      × AnswersTold filters (λ texts. WritesMade native as_bundle (TellsStack native texts)) result
+      × AnswersTold filters (λ files. WritesMade native as_bundle (TellsStack native (map (read_as native) files))) result
 
   -- the commands, or the page of one
   abbrev pub AnswersManual : Option (List ℕ) → Result Bool Stop → Type 0
@@ -418,8 +433,10 @@ module _ {I O : Type 0} (left : I → Option (List ℕ)) (given : I → Failures
       (input' ≡ input) × AnswersTold held taken folder out out' [] (of_none (OfArguments (IsRecorded p.native) p.from_two)) result
   DoesWith Assemble p result = (input' ≡ input) × AnswersTold held taken folder out out' (p.one ∷ []) (of_one IsAssembled) result
   DoesWith Read p result = (input' ≡ input) × AnswersRead held taken folder out out' (bytes_eq p.three (codes "rules")) p result
-  DoesWith Annotate p result = (input' ≡ input) × AnswersTold held taken folder out out' (p.two ∷ []) (of_one IsAnnotated) result
-  DoesWith Draw p result = (input' ≡ input) × AnswersTold held taken folder out out' (p.two ∷ []) (of_one IsDrawn) result
+  DoesWith Annotate p result =
+      (input' ≡ input) × AnswersTold held taken folder out out' (p.two ∷ []) (of_one (λ file. IsAnnotated (read_as p.native file))) result
+  DoesWith Draw p result =
+      (input' ≡ input) × AnswersTold held taken folder out out' (p.two ∷ []) (of_one (λ file. IsDrawn (read_as p.native file))) result
   DoesWith Lint p result =
       (input' ≡ input) × AnswersTold held taken folder out out' (p.two ∷ []) (of_one (OfBundle p.native (TellsLinted p.native))) result
   DoesWith Compare p result = (input' ≡ input) × AnswersCompare held taken folder out out' (bytes_eq p.four (codes "filters")) p result
@@ -432,7 +449,7 @@ module _ {I O : Type 0} (left : I → Option (List ℕ)) (given : I → Failures
   DoesWith Join p result = (input' ≡ input) × AnswersCombined held taken folder out out' p.native Laxest p.from_two result
   DoesWith Meet p result = (input' ≡ input) × AnswersCombined held taken folder out out' p.native Strictest p.from_two result
   DoesWith Stack p result = (input' ≡ input) × AnswersStack held taken folder out out' p.native p.from_two result
-  DoesWith Flatten p result = (input' ≡ input) × AnswersTold held taken folder out out' p.from_two TellsFlat result
+  DoesWith Flatten p result = (input' ≡ input) × AnswersTold held taken folder out out' p.from_two (TellsFlat p.native) result
   DoesWith Review p result =
       (input' ≡ input) × AnswersTold held taken folder out out' (p.two ∷ []) (of_one (OfBundle p.native (IsReviewed p.native))) result
   DoesWith Json p result = (input' ≡ input) × StopsAtWords held taken folder out out' result
@@ -490,14 +507,14 @@ module _ {O E : Type 0} (held : O → Option (List ℕ)) (taken : O → Failures
   -- what `certify` with `runc` tells, whatever its answer is
   abbrev pub ExplainsBehind : Arch → List ℕ → List ℕ → Result Bool Stop → Type 0
   ExplainsBehind native bundle filter (Ok done) =
-      (b : List ℕ) × (f : List ℕ) × HasBundle native folder bundle b × HasBytes folder filter f
+      (b : List ℕ) × (f : List ℕ) × HasBundle native folder bundle b × HasFilter native folder filter f
       × TellsBehind held taken out out' shown dropped err err' native b f (Ok done)
   ExplainsBehind native bundle filter (Err stop) = Unit {0}
 
   -- what it tells with `all` too
   abbrev pub ExplainsAllBehind : Arch → List ℕ → List ℕ → Result Bool Stop → Type 0
   ExplainsAllBehind native bundle filter (Ok done) =
-      (b : List ℕ) × (f : List ℕ) × HasBundle native folder bundle b × HasBytes folder filter f
+      (b : List ℕ) × (f : List ℕ) × HasBundle native folder bundle b × HasFilter native folder filter f
       × TellsAllBehind held taken out out' shown dropped err err' native b f (Ok done)
   ExplainsAllBehind native bundle filter (Err stop) = Unit {0}
 

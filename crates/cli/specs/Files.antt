@@ -1,6 +1,7 @@
 -- Files by their names, and what is read of them.
 use Rattle.std.specs.Prelude.{ℕ, ◌≡◌, ◌≤◌, ◌%◌, List, [], ◌++◌, length, Option, Some, None}
 use Rattle.call_tables.specs.declared.arch.Arch.{Arch}
+use Rattle.byte_order.specs.Turned.{read_as}
 use Rattle.section.specs.Texts.{IsBundleText}
 use Rattle.cli.specs.declared.fault.FileFault.{FileFault}
 use Rattle.cli.specs.declared.fault.FileFault.TheVariants.{CannotRead, OutOfMemory}
@@ -19,6 +20,12 @@ pub record HasBundle (native : Arch) (folder : Option Folder) (name bundle : Lis
   pub file : List ℕ
   pub is : HasBytes folder name file
   pub taken : IsBundleText native file bundle
+
+-- the file of that name has the bytes of this filter, in the machine's order of bytes
+pub record HasFilter (native : Arch) (folder : Option Folder) (name filter : List ℕ) : Type 0 where
+  pub file : List ℕ
+  pub is : HasBytes folder name file
+  pub read : filter ≡ read_as native file
 
 -- the file of that name cannot be read
 abbrev pub CannotBeRead : Option Folder → List ℕ → Type 0
@@ -48,3 +55,9 @@ pub record HasEnough (most : ℕ) (folder : Option Folder) (name bytes : List �
   pub file : List ℕ
   pub is : HasBytes folder name file
   pub enough : IsEnough most file bytes
+
+-- the same of a filter, of which more bytes than 4,096 instructions have are refused
+pub record HasEnoughFilter (native : Arch) (folder : Option Folder) (name bytes : List ℕ) : Type 0 where
+  pub filter : List ℕ
+  pub has : HasFilter native folder name filter
+  pub enough : IsEnough 32768 filter bytes

@@ -3,6 +3,7 @@ pub mod Fault
 pub mod Files
 pub mod Running
 pub mod Explained
+pub mod Exported
 pub mod Adapted
 pub mod Refusal
 pub mod Compared
@@ -22,3 +23,4 @@ pub mod Remarked
 pub mod Input
 pub mod Parts
 pub mod Json
+pub mod Exported

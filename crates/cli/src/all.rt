@@ -91,6 +91,6 @@ pub(crate) fn certify_all<'a, F: Files, O: Sink, E: Sink>(
     ensures quiet { result ≡ Ok true → err.new ≡ err.old }
 {
     let bundle = read_bundle(alloc, native, files, bundle)?;
-    let filter = read_filter(alloc, files, filter)?;
+    let filter = read_filter(alloc, native, files, filter)?;
     Ok(judge(alloc, native, &bundle, &filter, out, err)?)
 }

@@ -79,6 +79,6 @@ pub(crate) fn certify_behind<'a, F: Files, O: Sink, E: Sink>(
         native bundle.entry.now filter.entry.now result }
 {
     let bundle = read_bundle(alloc, native, files, bundle)?;
-    let filter = read_filter(alloc, files, filter)?;
+    let filter = read_filter(alloc, native, files, filter)?;
     Ok(judge(alloc, native, &bundle, &filter, out, err)?)
 }

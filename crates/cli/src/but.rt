@@ -166,6 +166,6 @@ pub(crate) fn certify_but<'a, F: Files, O: Sink, E: Sink>(
     let leave = leave_of(&parts);
     let native = parts.native;
     let bundle = read_bundle(alloc, native, files, parts.two)?;
-    let filter = read_filter(alloc, files, parts.three)?;
+    let filter = read_filter(alloc, parts.native, files, parts.three)?;
     Ok(judge(alloc, native, &bundle, &filter, leave, asked, out, err)?)
 }

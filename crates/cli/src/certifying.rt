@@ -35,7 +35,7 @@ fn certify<'a, F: Files, O: Sink, E: Sink>(
         native bundle.entry.now result }
 {
     let bundle = read_bundle(alloc, native, files, bundle)?;
-    let filter = read_filter(alloc, files, filter)?;
+    let filter = read_filter(alloc, native, files, filter)?;
     Ok(comparing::certify(alloc, native, &bundle, &filter, out, err)?)
 }
 

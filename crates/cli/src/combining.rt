@@ -4,6 +4,7 @@ ghost use Rattle.call_tables.specs.declared.arch.Arch.{Arch as TheArch};
 ghost use Rattle.together.specs.Combined.{IsCombined};
 ghost use Rattle.together.specs.declared.way.Way.{Way as TheWay};
 ghost use Rattle.combine.specs.Stack.{IsOfStack};
+ghost use Rattle.byte_order.specs.Turned.{read_as};
 ghost use Rattle.cli.specs.Combined.{TellsCombined, TellsStack};
 ghost use Rattle.cli.specs.Told.{OfEach};
 ghost use Rattle.cli.specs.inner.Telling.{IsCombinedOf, IsStackOf, IsToldOf, told_in};
@@ -12,6 +13,7 @@ use crate::adapting::Both;
 use crate::files::{Files, read_bundles, read_each};
 use crate::forms::{form_in, in_form};
 use crate::stops::Stop;
+use byte_order::each_read_as;
 use call_tables::Arch;
 use combine::{Uncombined, combine, combine_filters, line_of};
 use std::alloc::{AllocError, Global};
@@ -66,10 +68,11 @@ pub(crate) fn combined_of(
 }
 
 // What filters mean together.
-fn stack_of(alloc: Global, native: Arch, filters: &[Vec<u8>]) -> Result<Both, AllocError>
-    ensures { IfOk result (λ both. TellsStack native (map (λ f. f.items) filters.now) both.told) }
+fn stack_of(alloc: Global, native: Arch, files: &[Vec<u8>]) -> Result<Both, AllocError>
+    ensures { IfOk result (λ both. TellsStack native (map (read_as native) (map (λ f. f.items) files.now)) both.told) }
 {
-    match combine_filters(alloc, native, filters) {
+    let filters = each_read_as(alloc, native, files)?;
+    match combine_filters(alloc, native, &filters) {
         Ok(bundle) => Ok(found(alloc, bundle)),
         Err(why) => untold(alloc, native, &why),
     }
@@ -101,7 +104,8 @@ fn stack_of_files<'a, F: Files>(
     filters: &'a [&'a str],
     files: &mut F,
 ) -> Result<Both, Stop<'a>>
-    ensures { IsToldOf (F.folder files.old) (map (λ f. f.now) filters.entry.now) (TellsStack native) (told_in result) }
+    ensures { IsToldOf (F.folder files.old) (map (λ f. f.now) filters.entry.now)
+        (λ texts. TellsStack native (map (read_as native) texts)) (told_in result) }
 {
     match read_each(alloc, files, filters) {
         Ok(texts) => match stack_of(alloc, native, &texts) {

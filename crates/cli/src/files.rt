@@ -1,11 +1,12 @@
 //! Files by their names, and what the commands read of them.
 ghost use Rattle.std.specs.Prelude.{◌≡◌, IfErr, IfOk, map};
 ghost use Rattle.cli.specs.Dispatch.{FirstUnread, HaveBundles, HaveBytes, StopsAt};
-ghost use Rattle.cli.specs.Files.{HasBundle, HasBytes, HasEnough};
+ghost use Rattle.cli.specs.Files.{HasBundle, HasBytes, HasEnough, HasEnoughFilter};
 
 use crate::fault::FileFault;
 use crate::stops::Stop;
 use bpf_insn::MAX_INSNS;
+use byte_order::read_as;
 use call_tables::Arch;
 use cert_form::MAX_BYTES;
 use section::bundle_text;
@@ -113,8 +114,8 @@ pub fn read_record<'a, F: Files>(
     read_up_to(alloc, files, name, RECORD_SIZE)
 }
 
-/// The bytes of a file that is judged as a filter.
-pub fn read_filter<'a, F: Files>(
+/// The bytes of a file that is judged as a filter, with lower halves first.
+pub fn read_little_filter<'a, F: Files>(
     alloc: Global,
     files: &mut F,
     name: &'a str,
@@ -124,6 +125,26 @@ pub fn read_filter<'a, F: Files>(
     ensures err { IfErr result (λ stop. StopsAt (F.folder files.old) name.entry.now stop) }
 {
     read_up_to(alloc, files, name, FILTER_SIZE)
+}
+
+/// The filter of a file, which is read for a native machine.
+pub fn read_filter<'a, F: Files>(
+    alloc: Global,
+    native: Arch,
+    files: &mut F,
+    name: &'a str,
+) -> Result<Vec<u8>, Stop<'a>>
+    ensures same { F.folder files.new ≡ F.folder files.old }
+    ensures ok { IfOk result (λ bytes. HasEnoughFilter native (F.folder files.old) name.entry.now bytes.items) }
+    ensures err { IfErr result (λ stop. StopsAt (F.folder files.old) name.entry.now stop) }
+{
+    match read_little_filter(alloc, files, name) {
+        Ok(file) => match read_as(alloc, native, &file) {
+            Ok(filter) => Ok(filter),
+            Err(_no_memory) => Err(Stop::OutOfMemory),
+        },
+        Err(stop) => Err(stop),
+    }
 }
 
 /// The bytes of a file that is judged as a certificate.

@@ -1,10 +1,13 @@
 //! What `ccell flatten` does.
-ghost use Rattle.std.specs.Prelude.{◌≡◌, IfOk, false, map};
+ghost use Rattle.std.specs.Prelude.{◌≡◌, IfOk, false, map, true};
+ghost use Rattle.byte_order.specs.Turned.{written_as};
 ghost use Rattle.cli.specs.Flat.{TellsFlat};
 ghost use Rattle.cli.specs.inner.Telling.{IsToldOf};
 
 use crate::files::{Files, read_each};
 use crate::stops::Stop;
+use byte_order::{each_read_as, written_as};
+use call_tables::Arch;
 use flatten::{Unflat, flatten, line_of};
 use std::alloc::{AllocError, Global};
 use wording::Told;
@@ -20,12 +23,22 @@ fn untold(alloc: Global, why: &Unflat) -> Result<Told, AllocError>
     })
 }
 
-// The filter that answers as these do, or why there is none.
-fn flat_of(alloc: Global, filters: &[Vec<u8>]) -> Result<Told, AllocError>
-    ensures { IfOk result (TellsFlat (map (λ f. f.items) filters.now)) }
+// The file of a filter.
+fn told_filter(alloc: Global, native: Arch, filter: &[u8]) -> Result<Told, AllocError>
+    ensures file { IfOk result (λ told. told.bytes.items ≡ written_as native filter.now) }
+    ensures done { IfOk result (λ told. told.done ≡ true) }
 {
-    match flatten(alloc, filters) {
-        Ok(bytes) => Ok(Told { bytes, done: true }),
+    let bytes = written_as(alloc, native, filter)?;
+    Ok(Told { bytes, done: true })
+}
+
+// The filter that answers as those of files do, or why there is none.
+fn flat_of(alloc: Global, native: Arch, files: &[Vec<u8>]) -> Result<Told, AllocError>
+    ensures { IfOk result (TellsFlat native (map (λ f. f.items) files.now)) }
+{
+    let filters = each_read_as(alloc, native, files)?;
+    match flatten(alloc, &filters) {
+        Ok(made) => told_filter(alloc, native, &made),
         Err(why) => untold(alloc, &why),
     }
 }
@@ -33,13 +46,14 @@ fn flat_of(alloc: Global, filters: &[Vec<u8>]) -> Result<Told, AllocError>
 /// Makes one filter of a stack.
 pub(crate) fn flattened<'a, F: Files>(
     alloc: Global,
+    native: Arch,
     filters: &'a [&'a str],
     files: &mut F,
 ) -> Result<Told, Stop<'a>>
-    ensures { IsToldOf (F.folder files.old) (map (λ f. f.now) filters.entry.now) TellsFlat result }
+    ensures { IsToldOf (F.folder files.old) (map (λ f. f.now) filters.entry.now) (TellsFlat native) result }
 {
     match read_each(alloc, files, filters) {
-        Ok(texts) => match flat_of(alloc, &texts) {
+        Ok(texts) => match flat_of(alloc, native, &texts) {
             Ok(told) => Ok(told),
             Err(_no_memory) => Err(Stop::OutOfMemory),
         },

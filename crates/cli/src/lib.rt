@@ -14,6 +14,7 @@ mod combining;
 mod comparing;
 mod ending;
 mod explaining;
+mod exporting;
 mod fault;
 mod files;
 mod flattening;

@@ -16,7 +16,8 @@ use crate::certifying::certify_asked;
 use crate::combining::{combined, stacked};
 use crate::ending::status_on;
 use crate::explaining::explain;
-use crate::files::{Files, read_bundle, read_bundles, read_certificate, read_filter, read_record};
+use crate::exporting::export_for;
+use crate::files::{Files, read_bundle, read_bundles, read_certificate, read_filter, read_little_filter, read_record};
 use crate::flattening::flattened;
 use crate::logs::{learned, replayed};
 use crate::manual::{manual, version};
@@ -31,7 +32,7 @@ use crate::telling::{assembled, compare_as, linted, record, reviewed, tell, tell
 use crate::tuning::filter_for_counts;
 use call_tables::Arch;
 use command_line::{Command, CommandLine, read_arguments};
-use maker::{check_line, export_bundle, verdict_line};
+use maker::{check_line, verdict_line};
 use std::alloc::Global;
 use texts::{Sink, Source, ToWrite};
 use together::Way;
@@ -46,7 +47,7 @@ fn verdict<'a, F: Files, O: Sink>(
 ) -> Result<bool, Stop<'a>>
     ensures { AnswersVerdict O.held O.failures (F.folder files.old) out.old out.new filter.entry.now rec.entry.now result }
 {
-    let program = read_filter(alloc, files, filter)?;
+    let program = read_little_filter(alloc, files, filter)?;
     let call = read_record(alloc, files, rec)?;
     Ok(verdict_line(&program, &call, out)?)
 }
@@ -64,7 +65,7 @@ fn check<'a, F: Files, O: Sink>(
     ensures { AnswersCheck O.held O.failures (F.folder files.old) out.old out.new native bundle.entry.now filter.entry.now certificate.entry.now result }
 {
     let bundle = read_bundle(alloc, native, files, bundle)?;
-    let filter = read_filter(alloc, files, filter)?;
+    let filter = read_filter(alloc, native, files, filter)?;
     let certificate = read_certificate(alloc, files, certificate)?;
     Ok(check_line(alloc, native, &bundle, &filter, &certificate, out)?)
 }
@@ -81,7 +82,7 @@ fn export<'a, F: Files, O: Sink>(
     ensures { AnswersExport O.held O.failures (F.folder files.old) out.old out.new native bundle.entry.now form result }
 {
     let bundle = read_bundle(alloc, native, files, bundle)?;
-    Ok(export_bundle(alloc, native, &bundle, form, out)?)
+    export_for(alloc, native, &bundle, form, out)
 }
 
 // Answers a script with the filters of bundles, once they are checked, or says why the first without one has none.
@@ -208,7 +209,7 @@ fn obey<'a, F: Files, I: Source, O: Sink, E: Sink>(
             )
         }
         Command::Stack => tell_both(stacked(alloc, native, parts.from_two, files), out, err),
-        Command::Flatten => tell(flattened(alloc, parts.from_two, files), out),
+        Command::Flatten => tell(flattened(alloc, native, parts.from_two, files), out),
         Command::Review => tell(reviewed(alloc, native, parts.two, files), out),
         Command::Json => Err(Stop::Usage),
         Command::Manual => tell(manual(alloc, parts.first), out),

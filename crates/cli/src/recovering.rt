@@ -4,6 +4,7 @@ ghost use Rattle.aside.specs.declared.leave.Leave.{Leave as TheLeave};
 ghost use Rattle.call_tables.specs.declared.arch.Arch.{Arch as TheArch};
 ghost use Rattle.recover.specs.Recovered.{IsRecovered};
 ghost use Rattle.recover_but.specs.RecoveredBut.{IsToldBut};
+ghost use Rattle.byte_order.specs.Turned.{read_as};
 ghost use Rattle.cli.specs.Recovered as spec;
 ghost use Rattle.cli.specs.Told.{of_one};
 ghost use Rattle.cli.specs.Written.{WritesMade};
@@ -139,9 +140,9 @@ fn bundle_of_file<'a, F: Files>(
     filter: &'a str,
     files: &mut F,
 ) -> Result<Both, Stop<'a>>
-    ensures { IsToldOf (F.folder files.old) (filter.entry.now ∷ []) (of_one (spec.TellsAsked native (map (λ w. w.now) words.now))) (told_in result) }
+    ensures { IsToldOf (F.folder files.old) (filter.entry.now ∷ []) (of_one (λ file. spec.TellsAsked native (map (λ w. w.now) words.now) (read_as native file))) (told_in result) }
 {
-    match read_filter(alloc, files, filter) {
+    match read_filter(alloc, native, files, filter) {
         Ok(bytes) => match bundle_by(alloc, native, words, &bytes) {
             Ok(both) => Ok(both),
             Err(_no_memory) => Err(Stop::OutOfMemory),
@@ -159,8 +160,8 @@ pub(crate) fn recovered<'a, F: Files>(
     files: &mut F,
 ) -> Result<Both, Stop<'a>>
     ensures { IsToldOf (F.folder files.old) (filter.entry.now ∷ [])
-        (of_one (λ text. WritesMade native (spec.has_word (codes "bundle") (map (λ w. w.now) words.now))
-        (spec.TellsAsked native (map (λ w. w.now) words.now) text))) (told_in result) }
+        (of_one (λ file. WritesMade native (spec.has_word (codes "bundle") (map (λ w. w.now) words.now))
+        (spec.TellsAsked native (map (λ w. w.now) words.now) (read_as native file)))) (told_in result) }
 {
     let made = bundle_of_file(alloc, native, words, filter, files);
     in_form(alloc, native, has_word("bundle", words), made)

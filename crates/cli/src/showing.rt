@@ -1,6 +1,7 @@
 //! What `ccell read`, `ccell annotate` and `ccell draw` tell.
 ghost use Rattle.std.specs.Prelude.{◌≡◌, [], ◌∷◌, ℕ, List, IfOk, string_bytes, true};
 ghost use Rattle.call_tables.specs.declared.arch.Arch.{Arch as TheArch};
+ghost use Rattle.byte_order.specs.Turned.{read_as};
 ghost use Rattle.show.specs.Read.{IsReadOut};
 ghost use Rattle.show.specs.Shown.{IsAnnotated, IsDrawn};
 ghost use Rattle.rules_text.specs.Text.{IsTextOf};
@@ -35,9 +36,9 @@ pub(crate) fn annotated<'a, F: Files>(
     word: &str,
     files: &mut F,
 ) -> Result<Told, Stop<'a>>
-    ensures { IsToldOf (F.folder files.old) (filter.entry.now ∷ []) (of_one IsAnnotated) result }
+    ensures { IsToldOf (F.folder files.old) (filter.entry.now ∷ []) (of_one (λ file. IsAnnotated (read_as native file))) result }
 {
-    match read_filter(alloc, files, filter) {
+    match read_filter(alloc, native, files, filter) {
         Ok(bytes) => match shown_as(alloc, native, &bytes, word) {
             Ok(told) => Ok(told),
             Err(_no_memory) => Err(Stop::OutOfMemory),
@@ -53,9 +54,9 @@ pub(crate) fn drawn<'a, F: Files>(
     filter: &'a str,
     files: &mut F,
 ) -> Result<Told, Stop<'a>>
-    ensures { IsToldOf (F.folder files.old) (filter.entry.now ∷ []) (of_one IsDrawn) result }
+    ensures { IsToldOf (F.folder files.old) (filter.entry.now ∷ []) (of_one (λ file. IsDrawn (read_as native file))) result }
 {
-    match read_filter(alloc, files, filter) {
+    match read_filter(alloc, native, files, filter) {
         Ok(bytes) => match show::drawn(alloc, native, &bytes) {
             Ok(told) => Ok(told),
             Err(_no_memory) => Err(Stop::OutOfMemory),

@@ -1,6 +1,7 @@
 //! Commands that tell: what the library tells of arguments and of files, and how it is written.
 ghost use Rattle.std.specs.Prelude.{IfOk, Option, [], ◌∷◌, ◌≡◌, ◌⊎◌, Err, OnErr, codes, map, true};
 ghost use Rattle.std.specs.Str.{bytes_eq};
+ghost use Rattle.byte_order.specs.Turned.{read_as};
 ghost use Rattle.compare.specs.FiltersTold.{IsTold};
 ghost use Rattle.explain.specs.Told.{IsAssembled, IsRecorded};
 ghost use Rattle.review.specs.Reviewed.{IsReviewed};
@@ -20,6 +21,7 @@ use crate::files::{Files, read, read_bundle};
 use crate::naming::with_names;
 use crate::parts::Parts;
 use crate::stops::Stop;
+use byte_order::read_as;
 use call_tables::Arch;
 use std::alloc::{AllocError, Global};
 use texts::{Sink, write_all};
@@ -202,6 +204,20 @@ fn compared<'a, F: Files>(
     }
 }
 
+// Tells calls of which one filter answers another verdict than the other, as the files have them for a machine.
+fn filters_told(
+    alloc: Global,
+    native: Arch,
+    first: &[u8],
+    second: &[u8],
+) -> Result<Told, AllocError>
+    ensures { IfOk result (IsTold (read_as native first.now) (read_as native second.now)) }
+{
+    let old = read_as(alloc, native, first)?;
+    let new = read_as(alloc, native, second)?;
+    compare::compare_filters(alloc, native, &old, &new)
+}
+
 // Compares two filters, of which the first one was read.
 fn filters_compared_with<'a, F: Files>(
     alloc: Global,
@@ -210,10 +226,10 @@ fn filters_compared_with<'a, F: Files>(
     new: &'a str,
     files: &mut F,
 ) -> Result<Told, Stop<'a>>
-    ensures { IsToldOf (F.folder files.old) (new.entry.now ∷ []) (of_one (IsTold first.now)) result }
+    ensures { IsToldOf (F.folder files.old) (new.entry.now ∷ []) (of_one (λ new. IsTold (read_as native first.now) (read_as native new))) result }
 {
     match read(alloc, files, new) {
-        Ok(second) => match compare::compare_filters(alloc, native, first, &second) {
+        Ok(second) => match filters_told(alloc, native, first, &second) {
             Ok(told) => Ok(told),
             Err(_no_memory) => Err(Stop::OutOfMemory),
         },
@@ -229,7 +245,7 @@ fn filters_compared<'a, F: Files>(
     new: &'a str,
     files: &mut F,
 ) -> Result<Told, Stop<'a>>
-    ensures { IsToldOf (F.folder files.old) (old.entry.now ∷ new.entry.now ∷ []) (of_two IsTold) result }
+    ensures { IsToldOf (F.folder files.old) (old.entry.now ∷ new.entry.now ∷ []) (of_two (λ old new. IsTold (read_as native old) (read_as native new))) result }
 {
     match read(alloc, files, old) {
         Ok(first) => filters_compared_with(alloc, native, &first, new, files),

@@ -1,6 +1,5 @@
 //! What `ccell tune` does.
 ghost use Rattle.std.specs.Prelude.{◌≡◌, [], ◌∷◌, IfOk, ℕ, List, false};
-ghost use Rattle.call_tables.specs.declared.arch.Arch.{Arch as TheArch};
 ghost use Rattle.tune.specs.Tuned.{IsRightFor};
 ghost use Rattle.cli.specs.Told.{OfBundle, of_one, of_two};
 ghost use Rattle.cli.specs.Tuned.{TellsTuned};
@@ -9,22 +8,21 @@ ghost use Rattle.cli.specs.inner.Telling.{IsToldOf, told_in};
 use crate::adapting::Both;
 use crate::files::{Files, read, read_bundle};
 use crate::stops::Stop;
+use byte_order::written_as;
 use call_tables::Arch;
 use std::alloc::{AllocError, Global};
 use tune::{Tuned, Untuned, refusal, report, tune_bundle};
 use wording::Told;
 
 // A filter, and what it costs the calls.
-fn found(alloc: Global, tuned: Tuned) -> Result<Both, AllocError>
-    ensures { (native : TheArch) (bundle : List ℕ) → IsRightFor native bundle tuned.filter.items tuned.certificate.items
+fn found(alloc: Global, native: Arch, tuned: &Tuned) -> Result<Both, AllocError>
+    ensures { (bundle : List ℕ) → IsRightFor native bundle tuned.now.filter.items tuned.now.certificate.items
         → IfOk result (λ both. TellsTuned native bundle both.told) }
 {
-    let mut changes = report(alloc, &tuned)?;
+    let mut changes = report(alloc, tuned)?;
     changes.push_str("\n")?;
-    let told = Told {
-        bytes: tuned.filter,
-        done: true,
-    };
+    let bytes = written_as(alloc, native, &tuned.filter)?;
+    let told = Told { bytes, done: true };
     Ok(Both { told, changes })
 }
 
@@ -49,7 +47,7 @@ fn filter_of(alloc: Global, native: Arch, bundle: &[u8], counts: &[u8]) -> Resul
     ensures { IfOk result (λ both. TellsTuned native bundle.now both.told) }
 {
     match tune_bundle(alloc, native, bundle, counts) {
-        Ok(tuned) => found(alloc, tuned),
+        Ok(tuned) => found(alloc, native, &tuned),
         Err(Untuned::OutOfMemory) => Err(AllocError),
         Err(untuned) => refused(alloc, &untuned),
     }

@@ -95,7 +95,9 @@ foreign_said : (p : Policy) (token n : ℕ) (r : List ℕ) → ((arch : Arch) �
 foreign_said p token n r none of = said_foreign p token n r of (none_native token n none p.machines)
 
 zero_foreign : (arch : Arch) → has_call 0 0 arch ≡ false
-zero_foreign arch = no_machine 0 0 (no_token 0 (λ e. omega arith) (λ e. omega arith) (λ e. omega arith) (λ e. omega arith) (λ e. omega arith) (λ e. omega arith) (λ e. omega arith)) arch
+zero_foreign arch =
+    no_machine 0 0 (no_token 0 (λ e. omega arith) (λ e. omega arith) (λ e. omega arith) (λ e. omega arith) (λ e. omega arith) (λ e. omega arith)
+    (λ e. omega arith) (λ e. omega arith) (λ e. omega arith)) arch
 
 by_none : (way : Way) (ps : List Policy) (q : Policy) (named rest : List Call) (token n : ℕ) (r : List ℕ) → AreListed way ps q named rest
     → ((arch : Arch) → has_call token n arch ≡ false) → IsOfCall token n r → AgreesOn way ps q r

@@ -1,9 +1,10 @@
 -- What functions tell of files, before it is written.
-use Rattle.std.specs.Prelude.{ℕ, ◌≡◌, ◌⊎◌, Some, None, List, [], ◌∷◌, ◌++◌, Bool, Option, Result, Ok, Err}
+use Rattle.std.specs.Prelude.{ℕ, map, ◌≡◌, ◌⊎◌, Some, None, List, [], ◌∷◌, ◌++◌, Bool, Option, Result, Ok, Err}
 use Rattle.texts.specs.Failures.{Failures}
 use Rattle.wording.specs.declared.told.Told.{Told}
 use Rattle.cli.specs.declared.stops.Stop.{Stop}
 use Rattle.call_tables.specs.declared.arch.Arch.{Arch}
+use Rattle.byte_order.specs.Turned.{read_as}
 use Rattle.cli.specs.declared.adapting.Both.{Both}
 use Rattle.cli.specs.declared.stops.Stop.TheVariants.{CannotRead, OutOfMemory, Usage}
 use Rattle.explain.specs.Audit.{IsAudited}
@@ -91,7 +92,7 @@ pub record IsStackOf (folder : Option Folder) (native : Arch) (words : List (Lis
   pub filters : List (List ℕ)
   pub as_bundle : Bool
   pub named : NamesForm words filters as_bundle
-  pub is : IsToldOf folder filters (λ texts. WritesMade native as_bundle (TellsStack native texts)) told
+  pub is : IsToldOf folder filters (λ files. WritesMade native as_bundle (TellsStack native (map (read_as native) files))) told
 
 -- the program stops at the file of that name, or for want of memory
 abbrev pub StopsAtName : List ℕ → Stop → Type 0

@@ -1,7 +1,7 @@
 use Rattle.std.proofs.Common.{◌∙◌, ap, refl, subst, sym}
 use Rattle.std.specs.Prelude.{Err, Ok}
 use Rattle.std.proofs.lemmas.Result.{err_from_is_err_and}
-use Rattle.cli.specs.Files.{HasBundle, HasEnough}
+use Rattle.cli.specs.Files.{HasBundle, HasEnoughFilter}
 use Rattle.cli.proofs.DispatchLaws.{behind_done, behind_first, behind_second, behind_told}
 use Rattle.cli.proofs.behind.certify_behind.Goals as goal
 
@@ -25,7 +25,7 @@ returns-in_err-judge-clause-answers g c =
     c.args.filter.now c.deref.result.now
     (subst (λ b. HasBundle c.args.native (g.F.Files.folder c.args.files.now) c.args.bundle.now b) (sym c.deref.ensures.value) c.in_ok-bundle.ensures.ok)
     (g.F.Files.folder c.read_bundle.new.files) c.in_ok-bundle.ensures.same c.deref-2.result.now
-    (subst (λ b. HasEnough 32768 (g.F.Files.folder c.read_bundle.new.files) c.args.filter.now b) (sym c.deref-2.ensures.value)
+    (subst (λ b. HasEnoughFilter c.args.native (g.F.Files.folder c.read_bundle.new.files) c.args.filter.now b) (sym c.deref-2.ensures.value)
     c.in_ok-filter.ensures.ok)
     c.judge.new.out (Err c.in_err-judge.field-0.0) c.from_residual-in_err-judge.result c.in_err-judge.ensures.written (told.1 ∙ ap Err told.2)
 
@@ -35,7 +35,7 @@ returns-clause-answers g c =
     c.args.filter.now c.deref.result.now
     (subst (λ b. HasBundle c.args.native (g.F.Files.folder c.args.files.now) c.args.bundle.now b) (sym c.deref.ensures.value) c.in_ok-bundle.ensures.ok)
     (g.F.Files.folder c.read_bundle.new.files) c.in_ok-bundle.ensures.same c.deref-2.result.now
-    (subst (λ b. HasEnough 32768 (g.F.Files.folder c.read_bundle.new.files) c.args.filter.now b) (sym c.deref-2.ensures.value)
+    (subst (λ b. HasEnoughFilter c.args.native (g.F.Files.folder c.read_bundle.new.files) c.args.filter.now b) (sym c.deref-2.ensures.value)
     c.in_ok-filter.ensures.ok)
     c.judge.new.out (Ok c.in_ok-judge.field-0) (Ok c.in_ok-judge.field-0) c.in_ok-judge.ensures.written refl
 
@@ -45,6 +45,6 @@ returns-clause-explained g c =
     c.args.filter.now c.deref.result.now
     (subst (λ b. HasBundle c.args.native (g.F.Files.folder c.args.files.now) c.args.bundle.now b) (sym c.deref.ensures.value) c.in_ok-bundle.ensures.ok)
     (g.F.Files.folder c.read_bundle.new.files) c.in_ok-bundle.ensures.same c.deref-2.result.now
-    (subst (λ b. HasEnough 32768 (g.F.Files.folder c.read_bundle.new.files) c.args.filter.now b) (sym c.deref-2.ensures.value)
+    (subst (λ b. HasEnoughFilter c.args.native (g.F.Files.folder c.read_bundle.new.files) c.args.filter.now b) (sym c.deref-2.ensures.value)
     c.in_ok-filter.ensures.ok)
     g.E.Sink.held g.E.Sink.failures c.args.err.now c.judge.new.err c.judge.new.out c.in_ok-judge.field-0 c.in_ok-judge.ensures.told

@@ -5,7 +5,7 @@ use Rattle.aside.specs.declared.leave.Leave.{Leave}
 use Rattle.aside.specs.Told.{CertifiesBut}
 use Rattle.cli.specs.Dispatch.{leave_of}
 use Rattle.cli.specs.Parts.{read}
-use Rattle.cli.specs.Files.{HasBundle, HasEnough}
+use Rattle.cli.specs.Files.{HasBundle, HasEnoughFilter}
 use Rattle.cli.proofs.ButLaws.{but_done, but_first, but_second}
 use Rattle.cli.proofs.but.certify_but.Goals as goal
 
@@ -31,7 +31,7 @@ returns-in_err-judge-clause-answers g c =
     c.args.parts.three.now (leave_of (read c.args.parts)) c.deref.result.now
     (subst (λ b. HasBundle c.args.parts.native (g.F.Files.folder c.args.files.now) c.args.parts.two.now b) (sym c.deref.ensures.value) c.in_ok-bundle.ensures.ok)
     (g.F.Files.folder c.read_bundle.new.files) c.in_ok-bundle.ensures.same c.deref-2.result.now
-    (subst (λ b. HasEnough 32768 (g.F.Files.folder c.read_bundle.new.files) c.args.parts.three.now b) (sym c.deref-2.ensures.value)
+    (subst (λ b. HasEnoughFilter c.args.parts.native (g.F.Files.folder c.read_bundle.new.files) c.args.parts.three.now b) (sym c.deref-2.ensures.value)
     c.in_ok-filter.ensures.ok)
     c.judge.new.out (Err c.in_err-judge.field-0.0) c.from_residual-in_err-judge.result
     (subst (λ (leave : Leave). CertifiesBut g.O.Sink.held g.O.Sink.failures c.args.out.now c.judge.new.out c.args.parts.native c.deref.result.now c.deref-2.result.now leave (Err c.in_err-judge.field-0.0))
@@ -44,7 +44,7 @@ returns-clause-answers g c =
     c.args.parts.three.now (leave_of (read c.args.parts)) c.deref.result.now
     (subst (λ b. HasBundle c.args.parts.native (g.F.Files.folder c.args.files.now) c.args.parts.two.now b) (sym c.deref.ensures.value) c.in_ok-bundle.ensures.ok)
     (g.F.Files.folder c.read_bundle.new.files) c.in_ok-bundle.ensures.same c.deref-2.result.now
-    (subst (λ b. HasEnough 32768 (g.F.Files.folder c.read_bundle.new.files) c.args.parts.three.now b) (sym c.deref-2.ensures.value)
+    (subst (λ b. HasEnoughFilter c.args.parts.native (g.F.Files.folder c.read_bundle.new.files) c.args.parts.three.now b) (sym c.deref-2.ensures.value)
     c.in_ok-filter.ensures.ok)
     c.judge.new.out (Ok c.in_ok-judge.field-0) (Ok c.in_ok-judge.field-0)
     (subst (λ (leave : Leave). CertifiesBut g.O.Sink.held g.O.Sink.failures c.args.out.now c.judge.new.out c.args.parts.native c.deref.result.now c.deref-2.result.now leave (Ok c.in_ok-judge.field-0))

@@ -1,7 +1,7 @@
 use Rattle.std.proofs.Common.{◌∙◌, ap, refl, subst, sym}
 use Rattle.std.specs.Prelude.{Err, Ok}
 use Rattle.std.proofs.lemmas.Result.{err_from_is_err_and}
-use Rattle.cli.specs.Files.{HasBundle, HasEnough}
+use Rattle.cli.specs.Files.{HasBundle, HasEnoughFilter}
 use Rattle.cli.proofs.DispatchLaws.{certify_done, certify_first, certify_second}
 use Rattle.cli.proofs.ExplainedLaws.{explained_done}
 use Rattle.cli.proofs.certifying.certify.Goals as goal
@@ -26,7 +26,7 @@ returns-in_err-certify-clause-answers g c =
     c.args.filter.now c.deref.result.now
     (subst (λ b. HasBundle c.args.native (g.F.Files.folder c.args.files.now) c.args.bundle.now b) (sym c.deref.ensures.value) c.in_ok-bundle.ensures.ok)
     (g.F.Files.folder c.read_bundle.new.files) c.in_ok-bundle.ensures.same c.deref-2.result.now
-    (subst (λ b. HasEnough 32768 (g.F.Files.folder c.read_bundle.new.files) c.args.filter.now b) (sym c.deref-2.ensures.value)
+    (subst (λ b. HasEnoughFilter c.args.native (g.F.Files.folder c.read_bundle.new.files) c.args.filter.now b) (sym c.deref-2.ensures.value)
     c.in_ok-filter.ensures.ok)
     c.certify.new.out (Err c.in_err-certify.field-0.0) c.from_residual-in_err-certify.result c.in_err-certify.ensures.found
     (told.1 ∙ ap Err told.2)
@@ -37,7 +37,7 @@ returns-clause-answers g c =
     c.args.filter.now c.deref.result.now
     (subst (λ b. HasBundle c.args.native (g.F.Files.folder c.args.files.now) c.args.bundle.now b) (sym c.deref.ensures.value) c.in_ok-bundle.ensures.ok)
     (g.F.Files.folder c.read_bundle.new.files) c.in_ok-bundle.ensures.same c.deref-2.result.now
-    (subst (λ b. HasEnough 32768 (g.F.Files.folder c.read_bundle.new.files) c.args.filter.now b) (sym c.deref-2.ensures.value)
+    (subst (λ b. HasEnoughFilter c.args.native (g.F.Files.folder c.read_bundle.new.files) c.args.filter.now b) (sym c.deref-2.ensures.value)
     c.in_ok-filter.ensures.ok)
     c.certify.new.out (Ok c.in_ok-certify.field-0) (Ok c.in_ok-certify.field-0) c.in_ok-certify.ensures.found refl
 

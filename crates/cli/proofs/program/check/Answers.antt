@@ -1,7 +1,7 @@
 use Rattle.std.proofs.Common.{◌∙◌, ap, refl, subst, sym}
 use Rattle.std.specs.Prelude.{Err, Ok}
 use Rattle.std.proofs.lemmas.Result.{err_from_is_err_and}
-use Rattle.cli.specs.Files.{HasBundle, HasEnough}
+use Rattle.cli.specs.Files.{HasBundle, HasEnough, HasEnoughFilter}
 use Rattle.cli.proofs.DispatchLaws.{check_done, check_first, check_second, check_third}
 use Rattle.cli.proofs.program.check.Goals as goal
 
@@ -36,7 +36,7 @@ returns-in_err-check_line g c =
     c.args.filter.now c.deref.result.now
     (subst (λ b. HasBundle c.args.native (g.F.Files.folder c.args.files.now) c.args.bundle.now b) (sym c.deref.ensures.value) c.in_ok-bundle.ensures.ok)
     (g.F.Files.folder c.read_bundle.new.files) c.in_ok-bundle.ensures.same c.deref-2.result.now
-    (subst (λ b. HasEnough 32768 (g.F.Files.folder c.read_bundle.new.files) c.args.filter.now b) (sym c.deref-2.ensures.value)
+    (subst (λ b. HasEnoughFilter c.args.native (g.F.Files.folder c.read_bundle.new.files) c.args.filter.now b) (sym c.deref-2.ensures.value)
     c.in_ok-filter.ensures.ok)
     c.args.certificate.now (g.F.Files.folder c.read_filter.new.files) c.in_ok-filter.ensures.same c.check_line.new.sink
     c.deref-3.result.now (Err c.in_err-check_line.field-0.0) c.from_residual-in_err-check_line.result
@@ -50,7 +50,7 @@ returns g c =
     c.args.filter.now c.deref.result.now
     (subst (λ b. HasBundle c.args.native (g.F.Files.folder c.args.files.now) c.args.bundle.now b) (sym c.deref.ensures.value) c.in_ok-bundle.ensures.ok)
     (g.F.Files.folder c.read_bundle.new.files) c.in_ok-bundle.ensures.same c.deref-2.result.now
-    (subst (λ b. HasEnough 32768 (g.F.Files.folder c.read_bundle.new.files) c.args.filter.now b) (sym c.deref-2.ensures.value)
+    (subst (λ b. HasEnoughFilter c.args.native (g.F.Files.folder c.read_bundle.new.files) c.args.filter.now b) (sym c.deref-2.ensures.value)
     c.in_ok-filter.ensures.ok)
     c.args.certificate.now (g.F.Files.folder c.read_filter.new.files) c.in_ok-filter.ensures.same c.check_line.new.sink
     c.deref-3.result.now (Ok c.in_ok-check_line.field-0) (Ok c.in_ok-check_line.field-0)

@@ -154,7 +154,7 @@ returns-in-Stack-clause-does g c = rw c.in-Stack.is (
 pub returns-in-Flatten-clause-does : goal.returns-in-Flatten-clause-does
 returns-in-Flatten-clause-does g c = rw c.in-Flatten.is (
   refl,
-  answers_told g.O.Sink.held g.O.Sink.failures (g.F.Files.folder c.args.files.now) (texts c.args.parts.from_two.now) TellsFlat
+  answers_told g.O.Sink.held g.O.Sink.failures (g.F.Files.folder c.args.files.now) (texts c.args.parts.from_two.now) (TellsFlat c.args.parts.native)
       c.args.out.now c.tell-in-Flatten.new.out c.tell-in-Flatten.result c.flattened.result c.flattened.ensures c.tell-in-Flatten.ensures,
 )
 

@@ -1,10 +1,16 @@
 use Rattle.std.proofs.Common.{ℕ, List, [], ◌∷◌, subst, sym}
-use Rattle.cli.specs.Files.{HasEnough}
+use Rattle.show.specs.Shown.{IsAnnotated}
+use Rattle.cli.specs.Files.{HasEnoughFilter}
 use Rattle.cli.proofs.FileLaws.{shown_of_file}
 use Rattle.cli.proofs.showing.annotated.Goals as goal
 
 pub returns-in-Ok-shown_as : goal.returns-in-Ok-shown_as
 returns-in-Ok-shown_as g c =
-    let read = subst (λ (b : List ℕ). HasEnough 32768 (g.F.Files.folder c.args.files.now) c.args.filter.now b) (sym c.deref.ensures.value)
+    let read = subst (λ (b : List ℕ). HasEnoughFilter c.args.native (g.F.Files.folder c.args.files.now) c.args.filter.now b) (sym c.deref.ensures.value)
     c.in-Ok.ensures.ok in
-    (read.file ∷ [], (read.is, tt), shown_of_file read.file c.deref.result.now read.enough _ c.in-Ok-shown_as.told c.in-Ok-shown_as.ensures)
+    (
+      read.has.file ∷ [],
+      (read.has.is, tt),
+      subst (λ (f : List ℕ). IsAnnotated f c.in-Ok-shown_as.told) read.has.read
+      (shown_of_file read.filter c.deref.result.now read.enough _ c.in-Ok-shown_as.told c.in-Ok-shown_as.ensures),
+    )

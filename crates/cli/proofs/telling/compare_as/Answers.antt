@@ -1,5 +1,6 @@
 use Rattle.std.proofs.Common.{[], ◌∷◌, codes, subst}
 use Rattle.std.specs.Str.{bytes_eq}
+use Rattle.byte_order.specs.Turned.{read_as}
 use Rattle.compare.specs.FiltersTold.{IsTold}
 use Rattle.cli.specs.Compared.{TellsCompared}
 use Rattle.cli.specs.Told.{OfBundles, of_two}
@@ -13,7 +14,8 @@ pub returns-then-eq : goal.returns-then-eq
 returns-then-eq g c =
     subst (λ b. AnswersCompare g.O.Sink.held g.O.Sink.failures (g.F.Files.folder c.args.files.now) c.args.out.now c.tell.new.out b (read c.args.parts) c.tell.result)
     c.if-eq.ensures
-    (answers_told g.O.Sink.held g.O.Sink.failures (g.F.Files.folder c.args.files.now) (c.args.parts.two.now ∷ c.args.parts.three.now ∷ []) (of_two IsTold)
+    (answers_told g.O.Sink.held g.O.Sink.failures (g.F.Files.folder c.args.files.now) (c.args.parts.two.now ∷ c.args.parts.three.now ∷ []) 
+    (of_two (λ old new. IsTold (read_as c.args.parts.native old) (read_as c.args.parts.native new)))
     c.args.out.now c.tell.new.out c.tell.result c.filters_compared.result c.filters_compared.ensures c.tell.ensures)
 
 pub returns : goal.returns

@@ -1,0 +1,84 @@
+//! What `ccell export` writes: for a big-endian machine, the file is turned once it is whole.
+ghost use Rattle.std.specs.Prelude.{◌≡◌, ◌×◌, [], Err, IfOk};
+ghost use Rattle.cli.specs.Dispatch.{ExportsFor};
+ghost use Rattle.cli.specs.Exported.{TellsExported, file_in};
+ghost use Rattle.cli.specs.Json.{TellsObjects};
+ghost use Rattle.cli.specs.declared.stops.Stop.TheVariants.{OutOfMemory};
+
+use crate::parts::Form;
+use crate::stops::Stop;
+use byte_order::written_as;
+use call_tables::Arch;
+use maker::export_bundle;
+use std::alloc::{AllocError, Global};
+use texts::{Sink, ToWrite, write_all};
+use wording::Told;
+
+// The bytes of a filter as the machine has them, and any other answer as it is.
+fn file_of(
+    alloc: Global,
+    native: Arch,
+    form: Form,
+    done: bool,
+    kept: &[u8],
+) -> Result<Vec<u8>, AllocError>
+    ensures { IfOk result (λ file. file.items ≡ file_in native form done kept.now) }
+{
+    match form {
+        Form::Raw if done => written_as(alloc, native, kept),
+        _ => {
+            let mut copy = Vec::new(alloc);
+            copy.extend_from_slice(kept)?;
+            Ok(copy)
+        }
+    }
+}
+
+// What is written of a bundle for a big-endian machine.
+fn exported(alloc: Global, native: Arch, bundle: &[u8], form: Form) -> Result<Told, AllocError>
+    ensures { IfOk result (TellsExported native form bundle.now) }
+{
+    let mut kept = ToWrite::new(Vec::new(alloc));
+    match export_bundle(alloc, native, bundle, form, &mut kept) {
+        Ok(done) => {
+            let bytes = file_of(alloc, native, form, done, &kept.writer)?;
+            Ok(Told { bytes, done })
+        }
+        Err(_no_memory) => Err(AllocError),
+    }
+}
+
+// Writes it.
+fn export_turned<'a, O: Sink>(
+    alloc: Global,
+    native: Arch,
+    bundle: &[u8],
+    form: Form,
+    out: &mut O,
+) -> Result<bool, Stop<'a>>
+    ensures { ExportsTurned O.held O.failures out.old out.new native bundle.now form result }
+{
+    match exported(alloc, native, bundle, form) {
+        Ok(told) => match write_all(&told.bytes, out) {
+            Ok(()) => Ok(told.done),
+            Err(fault) => Err(Stop::from(fault)),
+        },
+        Err(_no_memory) => Err(Stop::OutOfMemory),
+    }
+}
+
+/// Writes the filter of a bundle in a form, once it is checked, or why it has none.
+pub(crate) fn export_for<'a, O: Sink>(
+    alloc: Global,
+    native: Arch,
+    bundle: &[u8],
+    form: Form,
+    out: &mut O,
+) -> Result<bool, Stop<'a>>
+    ensures { ExportsFor O.held O.failures out.old out.new (is_big_endian native) native bundle.now form result }
+{
+    if native.is_big_endian() {
+        return export_turned(alloc, native, bundle, form, out);
+    }
+    Ok(export_bundle(alloc, native, bundle, form, out)?)
+}
