@@ -1,9 +1,8 @@
 //! What `ccell export` writes: for a big-endian machine, the file is turned once it is whole.
-ghost use Rattle.std.specs.Prelude.{◌≡◌, ◌×◌, [], Err, IfOk};
-ghost use Rattle.cli.specs.Dispatch.{ExportsFor};
+ghost use Rattle.std.specs.Prelude.{IfOk};
+ghost use Rattle.call_tables.specs.Arch.{is_big_endian};
+ghost use Rattle.cli.specs.Dispatch.{ExportsFor, ExportsTurned};
 ghost use Rattle.cli.specs.Exported.{TellsExported, file_in};
-ghost use Rattle.cli.specs.Json.{TellsObjects};
-ghost use Rattle.cli.specs.declared.stops.Stop.TheVariants.{OutOfMemory};
 
 use crate::parts::Form;
 use crate::stops::Stop;

@@ -1,5 +1,6 @@
 use Rattle.std.proofs.Common.{[], ◌∷◌, codes, inl, inr, refl, ⊎_elim}
 use Rattle.std.specs.Str.{bytes_eq}
+use Rattle.byte_order.specs.Turned.{read_as}
 use Rattle.explain.specs.Told.{IsAssembled, IsRecorded, IsVersion}
 use Rattle.show.specs.Shown.{IsAnnotated, IsDrawn}
 use Rattle.command_line.specs.Lines.{texts}
@@ -61,14 +62,16 @@ returns-in-Lint-clause-does g c = rw c.in-Lint.is (
 pub returns-in-Annotate-clause-does : goal.returns-in-Annotate-clause-does
 returns-in-Annotate-clause-does g c = rw c.in-Annotate.is (
   refl,
-  answers_told g.O.Sink.held g.O.Sink.failures (g.F.Files.folder c.args.files.now) (c.args.parts.two.now ∷ []) (of_one IsAnnotated)
+  answers_told g.O.Sink.held g.O.Sink.failures (g.F.Files.folder c.args.files.now) (c.args.parts.two.now ∷ []) 
+      (of_one (λ file. IsAnnotated (read_as c.args.parts.native file)))
       c.args.out.now c.tell-in-Annotate.new.out c.tell-in-Annotate.result c.annotated.result c.annotated.ensures c.tell-in-Annotate.ensures,
 )
 
 pub returns-in-Draw-clause-does : goal.returns-in-Draw-clause-does
 returns-in-Draw-clause-does g c = rw c.in-Draw.is (
   refl,
-  answers_told g.O.Sink.held g.O.Sink.failures (g.F.Files.folder c.args.files.now) (c.args.parts.two.now ∷ []) (of_one IsDrawn)
+  answers_told g.O.Sink.held g.O.Sink.failures (g.F.Files.folder c.args.files.now) (c.args.parts.two.now ∷ []) 
+      (of_one (λ file. IsDrawn (read_as c.args.parts.native file)))
       c.args.out.now c.tell-in-Draw.new.out c.tell-in-Draw.result c.drawn.result c.drawn.ensures c.tell-in-Draw.ensures,
 )
 
@@ -83,8 +86,8 @@ pub returns-in-Recover-clause-does : goal.returns-in-Recover-clause-does
 returns-in-Recover-clause-does g c = rw c.in-Recover.is (
   refl,
   answers_told g.O.Sink.held g.O.Sink.failures (g.F.Files.folder c.args.files.now) (c.args.parts.two.now ∷ [])
-      (of_one (λ text. WritesMade c.args.parts.native (has_word (codes "bundle") (texts c.args.parts.from_three.now))
-      (TellsAsked c.args.parts.native (texts c.args.parts.from_three.now) text))) c.args.out.now c.tell_both-in-Recover.new.out
+      (of_one (λ file. WritesMade c.args.parts.native (has_word (codes "bundle") (texts c.args.parts.from_three.now))
+      (TellsAsked c.args.parts.native (texts c.args.parts.from_three.now) (read_as c.args.parts.native file)))) c.args.out.now c.tell_both-in-Recover.new.out
       c.tell_both-in-Recover.result (told_in c.recovered.result) c.recovered.ensures c.tell_both-in-Recover.ensures.told,
 )
 
