@@ -19,7 +19,7 @@ use Rattle.aside.specs.Told.{CertifiesBut, CertifiesBy, WritesAllBut, WritesBut}
 use Rattle.cli.specs.Dispatch.{AnswersAllBehind, AnswersAsked, AnswersBehind, AnswersBut, AnswersCertify, AnswersCheck, AnswersRun, Does}
 use Rattle.cli.specs.Dispatch.{asks_but, leave_of}
 use Rattle.cli.specs.Parts.{Parts, native_of, parts_of}
-use Rattle.cli.specs.Files.{Folder, HasBundle, HasBytes}
+use Rattle.cli.specs.Files.{Folder, HasBundle, HasFilter}
 use Rattle.cli.specs.Running.{HasAnswered, told_line}
 use Rattle.cli.specs.Headline.{IsAnswerTo}
 use Rattle.cli.specs.Statuses.{AreRight, AreRightAtLeast, AreRightBehind, HasRun}
@@ -77,7 +77,7 @@ module _ {O : Type 0} (held : O → Option (List ℕ)) (failures : O → Failure
   certified b f (Ok done) (inr (inr (inr lacks))) e = let no = lacks.0 in absurd (cc)
   certified b f (Err fault) written e = absurd (no_error e)
 
-  right_of : (folder : Option Folder) (bundle filter b f cert : List ℕ) → HasBundle native folder bundle b → HasBytes folder filter f
+  right_of : (folder : Option Folder) (bundle filter b f cert : List ℕ) → HasBundle native folder bundle b → HasFilter native folder filter f
       → IsFinding native b f cert Yes → AreRight folder native bundle filter
   right_of folder bundle filter b f cert of_bundle of_filter is =
       let right = headline.yes native b f cert is in record {
@@ -98,7 +98,7 @@ module _ {O : Type 0} (held : O → Option (List ℕ)) (failures : O → Failure
 
   -- a certificate was written of what stands behind a stub
   behind : (folder : Option Folder) (bundle filter b f rest : List ℕ) (answered : List Calls) (whole : Bool) (answer : Result Bool WriteFault)
-      → HasBundle native folder bundle b → HasBytes folder filter f
+      → HasBundle native folder bundle b → HasFilter native folder filter f
       → WritesBehind held failures old new native b f rest answered whole answer → Ok true ≡ told_line answer
       → AreRight folder native bundle filter ⊎ AreRightBehind folder native bundle filter
   behind folder bundle filter b f rest answered true answer of_bundle of_filter written e =
@@ -150,7 +150,7 @@ module _ {O : Type 0} (held : O → Option (List ℕ)) (failures : O → Failure
 
   -- that others are right was written, or what is written where nothing is left aside
   module _ (folder : Option Folder) (bundle filter b f : List ℕ) (of_bundle : HasBundle native folder bundle b)
-      (of_filter : HasBytes folder filter f) (leave : Leave) where
+      (of_filter : HasFilter native folder filter f) (leave : Leave) where
     in_three : AreRight folder native bundle filter ⊎ AreRightBehind folder native bundle filter
         → AreRightAtLeast folder native bundle filter leave
     in_three (inl right) = inl right

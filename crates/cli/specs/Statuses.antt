@@ -8,7 +8,7 @@ use Rattle.compare.specs.declared.behind_runc.stub.calls.Calls.{Calls}
 use Rattle.aside.specs.declared.leave.Leave.{Leave}
 use Rattle.aside.specs.Judged.{AreLeftOut, MeansRightBut}
 use Rattle.cli.specs.Dispatch.{HaveBundles}
-use Rattle.cli.specs.Files.{Folder, HasBundle, HasBytes}
+use Rattle.cli.specs.Files.{Folder, HasBundle, HasFilter}
 use Rattle.cli.specs.Headline.{IsAnswerTo, IsRightFor}
 
 -- the bytes of one file are taken as a bundle, and those of the other are a filter that is right for it
@@ -16,7 +16,7 @@ pub record AreRight (folder : Option Folder) (native : Arch) (bundle filter : Li
   pub b : List ℕ
   pub f : List ℕ
   pub bundle_has : HasBundle native folder bundle b
-  pub filter_has : HasBytes folder filter f
+  pub filter_has : HasFilter native folder filter f
   pub policy : Policy
   pub right : IsRightFor native b policy (insns_of f)
 
@@ -26,7 +26,7 @@ pub record AreRightBehind (folder : Option Folder) (native : Arch) (bundle filte
   pub b : List ℕ
   pub f : List ℕ
   pub bundle_has : HasBundle native folder bundle b
-  pub filter_has : HasBytes folder filter f
+  pub filter_has : HasFilter native folder filter f
   pub answered : List Calls
   pub right : MeansRight native b f answered
 
@@ -35,7 +35,7 @@ pub record AreRightBut (folder : Option Folder) (native : Arch) (bundle filter :
   pub b : List ℕ
   pub f : List ℕ
   pub bundle_has : HasBundle native folder bundle b
-  pub filter_has : HasBytes folder filter f
+  pub filter_has : HasFilter native folder filter f
   pub answered : List Calls
   pub aside : List Calls
   pub left : AreLeftOut native b f leave aside

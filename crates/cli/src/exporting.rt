@@ -1,5 +1,5 @@
 //! What `ccell export` writes: for a big-endian machine, the file is turned once it is whole.
-ghost use Rattle.std.specs.Prelude.{IfOk};
+ghost use Rattle.std.specs.Prelude.{◌≡◌, IfOk};
 ghost use Rattle.call_tables.specs.Arch.{is_big_endian};
 ghost use Rattle.cli.specs.Dispatch.{ExportsFor, ExportsTurned};
 ghost use Rattle.cli.specs.Exported.{TellsExported, file_in};

@@ -38,7 +38,7 @@ pub(crate) fn whole(arch: Arch) -> Arch
 // The part of a call on a machine: the flags of clone, the first argument elsewhere, are the second one on s390x and s390
 // (clone(2), C library/kernel differences).
 fn part_on(arch: Arch, name: &str, part: Part) -> Part
-    ensures { result.entry ≡ spec.part_on arch name.now part.entry }
+    ensures { result ≡ spec.part_on arch name.now part.entry }
 {
     if !arch.is_big_endian() || name != "clone" {
         return part;
@@ -51,13 +51,10 @@ fn part_on(arch: Arch, name: &str, part: Part) -> Part
 fn add_on(list: &mut Vec<Asked>, arch: Arch, name: &str, part: Part) -> Result<(), AllocError>
     ensures { IfOk result (λ _. list.new.items ≡ list.old.items ++ spec.asked_on part.entry name.now arch) }
 {
+    let part = part_on(arch, name, part);
     match whole(arch).number(name) {
         Some(nr) => {
-            list.push(Asked {
-                arch,
-                nr,
-                part: part_on(arch, name, part),
-            })?;
+            list.push(Asked { arch, nr, part })?;
             Ok(())
         }
         None => Ok(()),
