@@ -17,7 +17,10 @@ use crate::combining::{combined, stacked};
 use crate::ending::status_on;
 use crate::explaining::explain;
 use crate::exporting::export_for;
-use crate::files::{Files, read_bundle, read_bundles, read_certificate, read_filter, read_little_filter, read_record};
+use crate::files::{
+    Files, read_bundle, read_bundles, read_certificate, read_filter, read_little_filter,
+    read_record,
+};
 use crate::flattening::flattened;
 use crate::logs::{learned, replayed};
 use crate::manual::{manual, version};

@@ -62,7 +62,7 @@ returns-in-Lint-clause-does g c = rw c.in-Lint.is (
 pub returns-in-Annotate-clause-does : goal.returns-in-Annotate-clause-does
 returns-in-Annotate-clause-does g c = rw c.in-Annotate.is (
   refl,
-  answers_told g.O.Sink.held g.O.Sink.failures (g.F.Files.folder c.args.files.now) (c.args.parts.two.now ∷ []) 
+  answers_told g.O.Sink.held g.O.Sink.failures (g.F.Files.folder c.args.files.now) (c.args.parts.two.now ∷ [])
       (of_one (λ file. IsAnnotated (read_as c.args.parts.native file)))
       c.args.out.now c.tell-in-Annotate.new.out c.tell-in-Annotate.result c.annotated.result c.annotated.ensures c.tell-in-Annotate.ensures,
 )
@@ -70,7 +70,7 @@ returns-in-Annotate-clause-does g c = rw c.in-Annotate.is (
 pub returns-in-Draw-clause-does : goal.returns-in-Draw-clause-does
 returns-in-Draw-clause-does g c = rw c.in-Draw.is (
   refl,
-  answers_told g.O.Sink.held g.O.Sink.failures (g.F.Files.folder c.args.files.now) (c.args.parts.two.now ∷ []) 
+  answers_told g.O.Sink.held g.O.Sink.failures (g.F.Files.folder c.args.files.now) (c.args.parts.two.now ∷ [])
       (of_one (λ file. IsDrawn (read_as c.args.parts.native file)))
       c.args.out.now c.tell-in-Draw.new.out c.tell-in-Draw.result c.drawn.result c.drawn.ensures c.tell-in-Draw.ensures,
 )

@@ -12,6 +12,6 @@ returns-in-Ok-bundle_by g c =
       read.has.file ∷ [],
       (read.has.is, tt),
       subst (λ (f : List ℕ). TellsAsked c.args.native words f c.in-Ok-bundle_by.both.told) read.has.read
-      (recovered_of_file read.filter c.deref.result.now read.enough c.args.native words c.in-Ok-bundle_by.both.told
-      (leaves_out words) c.in-Ok-bundle_by.ensures),
+          (recovered_of_file read.filter c.deref.result.now read.enough c.args.native words c.in-Ok-bundle_by.both.told
+          (leaves_out words) c.in-Ok-bundle_by.ensures),
     )

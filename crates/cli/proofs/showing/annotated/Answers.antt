@@ -7,10 +7,9 @@ use Rattle.cli.proofs.showing.annotated.Goals as goal
 pub returns-in-Ok-shown_as : goal.returns-in-Ok-shown_as
 returns-in-Ok-shown_as g c =
     let read = subst (λ (b : List ℕ). HasEnoughFilter c.args.native (g.F.Files.folder c.args.files.now) c.args.filter.now b) (sym c.deref.ensures.value)
-    c.in-Ok.ensures.ok in
-    (
+    c.in-Ok.ensures.ok in (
       read.has.file ∷ [],
       (read.has.is, tt),
       subst (λ (f : List ℕ). IsAnnotated f c.in-Ok-shown_as.told) read.has.read
-      (shown_of_file read.filter c.deref.result.now read.enough _ c.in-Ok-shown_as.told c.in-Ok-shown_as.ensures),
+          (shown_of_file read.filter c.deref.result.now read.enough _ c.in-Ok-shown_as.told c.in-Ok-shown_as.ensures),
     )
