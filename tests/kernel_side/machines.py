@@ -28,6 +28,7 @@ class Machine:
     number_bits: int = 32  # of a number, as the kernel takes it
     is_big_endian: bool = False
     flags_of_clone: int = 0  # which of its arguments these are
+    in_memory: tuple = ()  # calls whose arguments stand in memory, where no filter sees them
 
     def number(self, name, way=0):
         """The number of a call by a way, or None where the machine has none of this name."""
@@ -102,6 +103,7 @@ S390X = Machine(
     number_bits=16,
     is_big_endian=True,
     flags_of_clone=1,
+    in_memory=("mmap",),
 )
 S390 = Machine(
     name="s390",
