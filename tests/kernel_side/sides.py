@@ -14,6 +14,11 @@ from kernel_side.insns import turned
 SYSCALL, INT80 = "s", "i"
 
 
+def in_digits(machine, filtered):
+    """The bytes of a machine's filter, in digits, as both sides read them: the lowest byte of a number first."""
+    return (turned(filtered) if machine.is_big_endian else filtered).hex()
+
+
 class Sides:
     """Both sides of a machine, in a folder for what they need."""
 
@@ -49,9 +54,7 @@ class Sides:
             file.write(bundle)
             file.flush()
             ran = subprocess.run([CCELL, "export", machine, file.name, "raw"], capture_output=True, timeout=ENDLESS, check=False)
-        if ran.returncode:
-            return None
-        return (turned(ran.stdout) if self.machine.is_big_endian else ran.stdout).hex()
+        return None if ran.returncode else in_digits(self.machine, ran.stdout)
 
     def came_of(self, word, carried_out):
         """What the model says comes of a call with a verdict: its result, or None where the task ends."""
