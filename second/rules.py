@@ -7,9 +7,9 @@ DOCS = pathlib.Path(__file__).resolve().parent.parent / 'docs'
 ACTIONS = {'KILL': 0, 'KILL_PROCESS': 0x80000000, 'TRAP': 0x30000, 'ERRNO': 0x50000, 'TRACE': 0x7ff00000,
            'LOG': 0x7ffc0000, 'ALLOW': 0x7fff0000, 'NOTIFY': 0x7fc00000, 'KILL_THREAD': 0}
 WHOLE = ['linux-x86-64', 'linux-x86', 'linux-x32', 'linux-aarch64', 'linux-arm',
-         'linux-riscv64', 'linux-ppc64le', 'linux-loongarch64']   # as the columns of linux-calls.txt
+         'linux-riscv64', 'linux-ppc64le', 'linux-loongarch64', 'linux-s390x', 'linux-s390']   # as the columns of linux-calls.txt
 ORDER = ['x86-64', 'linux-x86-64', 'linux-x32', 'linux-x86', 'aarch64', 'linux-aarch64', 'linux-arm',
-         'linux-riscv64', 'linux-ppc64le', 'linux-loongarch64']
+         'linux-riscv64', 'linux-ppc64le', 'linux-loongarch64', 'linux-s390x', 'linux-s390']
 
 
 def tables(native):

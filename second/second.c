@@ -38,9 +38,9 @@ static void read_file(const char *name) {
 }
 
 /* ---- The profile ---- */
-enum { MACHINES = 10, X86_64 = 2, X32 = 3, OPERATORS = 7, LT = 0, LE, GE, GT, EQ, NE, MASKED_EQ };
+enum { MACHINES = 12, X86_64 = 2, X32 = 3, OPERATORS = 7, LT = 0, LE, GE, GT, EQ, NE, MASKED_EQ };
 static const char *const machine_names[] = {"x86-64", "aarch64", "linux-x86-64", "linux-x32", "linux-x86", "linux-aarch64", "linux-arm",
-                                            "linux-riscv64", "linux-ppc64le", "linux-loongarch64"};
+                                            "linux-riscv64", "linux-ppc64le", "linux-loongarch64", "linux-s390x", "linux-s390"};
 static const char *const argument_names[] = {"arg0", "arg1", "arg2", "arg3", "arg4", "arg5"};
 static const char *const operator_names[] = {"LT", "LE", "GE", "GT", "EQ", "NE", "MASKED_EQ"};
 static struct machine {
@@ -58,6 +58,8 @@ static struct machine {
     {0xc00000f3, true, false, false, {1, {0}, {ALL}}, {0}},
     {0xc0000015, true, false, false, {1, {0}, {ALL}}, {0}},
     {0xc0000102, true, false, false, {1, {0}, {ALL}}, {0}},
+    {0x80000016, true, false, false, {1, {0}, {ALL}}, {0}},
+    {0x16, true, true, false, {1, {0}, {ALL}}, {0}},
 };
 /* An argument is in a range and has data under a mask; or, by NE, it is not the data. */
 struct condition { unsigned argument; bool is_order, is_not; uint64_t low, high, mask, data; };
@@ -233,15 +235,23 @@ static void check_kernel(void) {
     }
 }
 
-static void read_filter(const char *name) {
+/* A number of a few bytes, the lowest or the highest first. */
+static uint32_t number_at(const unsigned char *at, unsigned size, bool is_big_endian) {
+    uint32_t number = 0;
+    for (unsigned i = 0; i < size; i++) number |= (uint32_t)at[is_big_endian ? size - 1 - i : i] << 8 * i;
+    return number;
+}
+/* A filter of a big-endian machine stands in its file as its kernel has it. Where it reads a half of a number, it reads here the other. */
+static void read_filter(const char *name, bool is_big_endian) {
     read_file(name);
     if (byte_count % 8 != 0) answer("no 1 View 1 NotMultipleOf8", -1);
     if (byte_count == 0) answer("no 1 View 2 Empty", -1);
     if (byte_count > 8 * MOST_INSTRUCTIONS) answer("no 1 View 3 TooLong", -1);
     for (filter_length = 0; filter_length < byte_count / 8; filter_length++) {
         const unsigned char *at = (unsigned char *)bytes + 8 * filter_length;
-        uint32_t k = at[4] | (uint32_t)at[5] << 8 | (uint32_t)at[6] << 16 | (uint32_t)at[7] << 24;
-        filter[filter_length] = (struct instruction){(uint16_t)(at[0] | at[1] << 8), at[2], at[3], k};
+        struct instruction i = {(uint16_t)number_at(at, 2, is_big_endian), at[2], at[3], number_at(at + 4, 4, is_big_endian)};
+        if (is_big_endian && i.code == LOAD && i.k >= 8 && i.k < 64 && i.k % 4 == 0) i.k ^= 4;
+        filter[filter_length] = i;
     }
 }
 
@@ -634,7 +644,7 @@ static bool keeps_entail(const struct node *node) {
 int main(int count, char **names) {
     if (count != 5 || names[2][0] == '-' || names[3][0] == '-' || names[4][0] == '-') fault(2, "usage", "");
     read_profile(names[2], names[1]);
-    read_filter(names[3]);
+    read_filter(names[3], strcmp(names[1], "linux-s390x") == 0);
     check_kernel();
     read_certificate(names[4]);
     bool is_root = nodes[0].pc == 0 && nodes[0].chain == 0;

@@ -56,6 +56,19 @@ KERNELS = {
         bus="pci",
         programs=(("ppc64le", "powerpc64le-linux-gnu-gcc", "gcc-powerpc64le-linux-gnu libc6-dev-ppc64el-cross"),),
     ),
+    "s390x": Kernel(
+        debian="s390x",
+        image="linux-image-s390x",
+        emulator="qemu-system-s390x",
+        comes_with="qemu-system-misc",
+        board=("-M", "s390-ccw-virtio"),
+        console="ttysclp0",
+        bus="ccw",
+        programs=(
+            ("s390x", "s390x-linux-gnu-gcc", "gcc-s390x-linux-gnu libc6-dev-s390x-cross"),
+            ("s390", "s390x-linux-gnu-gcc -m31", "gcc-multilib-s390x-linux-gnu libc6-dev-s390-s390x-cross"),
+        ),
+    ),
 }
 
 # The kernel's modules that the guest loads where they are, in this order.

@@ -10,7 +10,8 @@ from harness.asked import record
 from harness.limits import ENDLESS
 from harness.places import CCELL, TOP
 from harness.rows import Fault
-from kernel_side.sides import SYSCALL, Tally, case_line
+from kernel_side.handed import arguments_of
+from kernel_side.sides import SYSCALL, Tally, case_line, in_digits
 
 # Debian's package with Docker's sources, and the profile in it.
 SOURCES, PROFILE = "golang-github-docker-docker-dev", "*/docker/docker/profiles/seccomp/default.json"
@@ -33,9 +34,13 @@ class Asked:
         """What comes of it under the section of this name."""
         return self.narrowed if name == "narrowed" and self.narrowed else self.under
 
+    def arguments(self, machine):
+        """Its arguments as a machine has them."""
+        return arguments_of(machine, self.name, self.args)
+
     def line(self, machine, filters):
         """The line of the real side."""
-        return case_line(filters, [(SYSCALL, machine.number(self.name), self.args)])
+        return case_line(filters, [(SYSCALL, machine.number(self.name), self.arguments(machine))])
 
 
 # By Docker's profile for a container without options: the first are allowed, the others refused by error 1, or 38 of clone3.
@@ -100,7 +105,7 @@ def is_right(told, wanted):
 
 def came_of(both, calls, filtered):
     """Whether a filter loads, and what comes of each call under it; without one where there are no bytes."""
-    loaded = [filtered.hex()] if filtered else []
+    loaded = [in_digits(both.machine, filtered)] if filtered else []
     told = [line.partition(" ") for line in both.real([asked.line(both.machine, loaded) for asked in calls])]
     return all(loads == ("0" if filtered else "-") for loads, _, _ in told), [rest for _, _, rest in told]
 
@@ -126,7 +131,8 @@ def try_calls(both, tally, filters):
 def compare_with_model(both, tally, filtered, asked, told):
     """Whether the model says of a call what the kernel did: that it is carried out, or which error it gets."""
     nr, token = both.machine.number(asked.name), both.machine.token(SYSCALL)
-    _, (word, *_) = both.modelled([f"filter bytes {filtered.hex()}", f"filter run {record(nr, token, list(asked.args))}"])
+    asked_for = [f"filter bytes {in_digits(both.machine, filtered)}", f"filter run {record(nr, token, asked.arguments(both.machine))}"]
+    _, (word, *_) = both.modelled(asked_for)
     wanted = both.came_of(int(word, 16), asked.free)
     tally.count(is_right(told, wanted), lambda: f"{asked.name} {asked.args}: the model: {word}, the kernel: {told}")
 

@@ -50,6 +50,8 @@ class Bench:
             self.program.tuned(row, rest)
         elif kind == "flattened":
             self.program.flattened(row, rest)
+        elif kind == "exported":
+            self.program.exported(row, rest)
         elif kind == "pace":
             row.tell(pace(self.shelf, rest))
         elif kind in Streams.KINDS:

@@ -20,7 +20,7 @@ MACHINES = {
     "": ("x86-64", "aarch64"),
     "linux-": (
         *("linux-x86-64", "linux-x86", "linux-x32", "linux-aarch64", "linux-arm"),
-        *("linux-riscv64", "linux-ppc64le", "linux-loongarch64"),
+        *("linux-riscv64", "linux-ppc64le", "linux-loongarch64", "linux-s390x", "linux-s390"),
     ),
 }
 # The token of each machine in a record (seccomp(2); AUDIT_ARCH_X86_64, AUDIT_ARCH_AARCH64, AUDIT_ARCH_I386 and so on of linux/audit.h).
@@ -36,6 +36,8 @@ TOKENS = {
     "linux-riscv64": 0xC00000F3,
     "linux-ppc64le": 0xC0000015,
     "linux-loongarch64": 0xC0000102,
+    "linux-s390x": 0x80000016,
+    "linux-s390": 0x16,
 }
 # The names of machines in the answers of `ask`.
 DEBUG_NAMES = {
@@ -49,6 +51,8 @@ DEBUG_NAMES = {
     "LinuxRiscv64": "linux-riscv64",
     "LinuxPpc64le": "linux-ppc64le",
     "LinuxLoongarch64": "linux-loongarch64",
+    "LinuxS390x": "linux-s390x",
+    "LinuxS390": "linux-s390",
 }
 # The names that a bundle may have for machines (config-linux, Seccomp).
 SCMP_NAMES = [f"SCMP_ARCH_{name}" for name in "X86 X86_64 X32 ARM AARCH64 MIPS MIPS64 PPC64LE RISCV64 S390 S390X LOONGARCH64".split()]

@@ -7,7 +7,12 @@ from harness.changed import BITS, IN, MET, NOT_BITS, OUT, entry
 ALL = 0xFFFFFFFF
 MASKS = (ALL, ALL, ALL, 0, 1, 2, 3, 0x10, 0xFF, 0xFFF0, 0xFFFFFF00, 0x80000000, 0x80000001)
 NUMBERS = (0, 0, 1, 2, 3, 5, 0x10, 0xFF, 0x100, 0x3FFFFFFF, 0x40000000, 0x7FFFFFFF, 0x80000000, 0xFFFFFFFE, ALL)
-TOKENS = (0xC000003E, 0xC000003E, 0x40000003, 0xC00000B7, 0x40000028, 0xC00000F3, 0xC0000015, 0xC0000102)
+TOKENS = (0xC000003E, 0xC000003E, 0x40000003, 0xC00000B7, 0x40000028, 0xC00000F3, 0xC0000015, 0xC0000102, 0x80000016, 0x16)
+# Those of machines with another one than x86-64.
+OF_MACHINES = {
+    "x86": 0x40000003, "aarch64": 0xC00000B7, "arm": 0x40000028, "riscv64": 0xC00000F3, "ppc64le": 0xC0000015, "loongarch64": 0xC0000102,
+    "s390x": 0x80000016, "s390": 0x16,
+}
 # Ranges of numbers that are a machine's own, or foreign.
 OWN = ((0, 0x3FFFFFFF), (0x40000000, 0xFFFFFFFE), (0x40000000, ALL), (ALL, ALL), (0, ALL))
 VALUES = (UNKNOWN, struct.pack("<BBI", 1, 0, 0), struct.pack("<BBI", 1, 0, 5), struct.pack("<BBI", 1, 0, ALL))
@@ -83,7 +88,7 @@ class Craft:
         """A machine's token: mostly that of the rule's machine."""
         if not self.rule or self.dice.randrange(8) == 0:
             return self.dice.choice(TOKENS)
-        return {"x86": 0x40000003, "aarch64": 0xC00000B7, "arm": 0x40000028}.get(self.rule[0].removeprefix("linux-"), 0xC000003E)
+        return OF_MACHINES.get(self.rule[0].removeprefix("linux-"), 0xC000003E)
 
     def halves(self):
         """Literals by which some conditions of the rule hold, or do not."""

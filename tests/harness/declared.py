@@ -10,7 +10,8 @@ EVENTS = "/sys/kernel/tracing/events/syscalls"
 # The kernel's names of functions that serve calls of other names.
 FUNCTIONS = {
     "newstat": "stat", "newfstat": "fstat", "newlstat": "lstat", "newuname": "uname", "sendfile64": "sendfile",
-    "umount": "umount2", "mmap_pgoff": "mmap", "arm64_personality": "personality", "fadvise64_64": "fadvise64",
+    "umount": "umount2", "mmap_pgoff": "mmap", "arm64_personality": "personality", "s390_personality": "personality",
+    "s390_ipc": "ipc", "fadvise64_64": "fadvise64",
 }
 
 # Machines that read a call as another one does, where the page has a line for that one alone.

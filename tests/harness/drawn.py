@@ -7,7 +7,7 @@ TOKENS = {"x86-64": 0xC000003E, "aarch64": 0xC00000B7}
 # The bit of x32 calls.
 LEAST_X32 = 0x40000000
 # The machines of which the lower half of an argument is compared.
-NARROW = ("linux-x86", "linux-arm")
+NARROW = ("linux-x86", "linux-arm", "linux-s390")
 
 VERDICTS = (KILL_THREAD, KILL_THREAD, KILL_THREAD, ALLOW, ALLOW, 0x50001, 0x50002, 0x80000000)
 NUMBERS = (0, 1, 1, 2, 3, 5, 7, 435)

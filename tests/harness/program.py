@@ -97,6 +97,13 @@ class Program:
         row.tell("the same filter" if ran.stdout == self.shelf.bytes_of(expected) else f"another filter: {ran.stdout.hex()}")
         row.tell(f"status {ran.returncode}")
 
+    def exported(self, row, line):
+        """Has it export the filter of `MACHINE BUNDLE as EXPECTED`, and tells whether the bytes are those of the last file."""
+        native, bundle, _, expected = line.split()
+        ran = self.run(["export", native, bundle, "raw"])
+        row.tell("the same filter" if ran.stdout == self.shelf.bytes_of(expected) else f"another filter: {ran.stdout.hex()}")
+        row.tell(f"status {ran.returncode}")
+
     def behind(self, row, line):
         """Asks for the evidence on `MACHINE BUNDLE FILTER` behind runc's stub. Tells what stands on standard error, and of a certificate
         what the check says of it and of the filter without its stub, whose size is told, or else of the whole."""

@@ -36,7 +36,7 @@ FAULTS = {
 
 
 # The machines that have all calls of Linux, as PROFILES.md tells how many there are.
-WHOLE = ("x86-64", "x86", "x32", "AArch64", "ARM", "riscv64", "ppc64le", "loongarch64")
+WHOLE = ("x86-64", "x86", "x32", "AArch64", "ARM", "riscv64", "ppc64le", "loongarch64", "s390x", "s390")
 
 
 def read(path):

@@ -18,6 +18,7 @@ LISTS = (
     *((X, X), (X, X), (X, X), (A, A), (X, A), (X, A), (A, X), (A, X)),
     *((L, "linux-x86"), (L, "linux-x32"), (L, "linux-x86", "linux-x32"), ("linux-aarch64", "linux-arm")),
     *(("linux-riscv64", L), ("linux-ppc64le", "linux-riscv64"), ("linux-loongarch64", "linux-ppc64le", "linux-x32")),
+    *(("linux-s390x", "linux-s390"), ("linux-s390x", "linux-s390", "linux-aarch64")),
 )
 
 # How many certificates are made of an accepted one, and how many changes of its nodes each has.

@@ -42,7 +42,7 @@ static int read_filters(struct plan *plan, const char **at)
 
 		if (here == MOST_FILTERS)
 			return 0;
-		bytes = read_bytes(at, (unsigned char *)plan->insns[here], MOST_BYTES);
+		bytes = read_filter(at, plan->insns[here], MOST_BYTES);
 		if (bytes < 0 || bytes % 8)
 			return 0;
 		plan->counts[here] = bytes / 8;

@@ -14,6 +14,14 @@ long enter(unsigned long number, unsigned long a, unsigned long b, unsigned long
 	return enter_by_syscall(&call);
 }
 
+long enter_clone(unsigned long flags)
+{
+	struct call call = { SYS_clone, { 0 } };
+
+	call.args[CLONE_FLAGS] = flags;
+	return enter_by_syscall(&call);
+}
+
 long load(const struct sock_filter *insns, unsigned short count)
 {
 	struct sock_fprog program = { count, (struct sock_filter *)insns };

@@ -6,10 +6,9 @@ that it gives is worked out here.
 """
 import json
 
-from kernel_side.insns import ACTIONS, ALLOW, LD, LD_MEM, NAMELESS, RET, digits
+from kernel_side.insns import ACTIONS, ALLOW, JEQ, LD, LD_MEM, NAMELESS, RET, digits
 from kernel_side.sides import Tally
 
-JEQ = 0x15
 # The calls of which drawn filters answer one, of two of them twice as often, if the machine has them.
 FILTERED = ("sched_yield", "sched_yield", "getpid", "getpid", "getppid", "gettid", "clone", "fork", "execve", "kill", "exit", "exit_group",
             "seccomp", "prctl")
@@ -81,15 +80,22 @@ def drawn_script(dice, machine):
     return commands
 
 
-def line_of(command):
+def line_of(machine, command):
     """A command as `ccell run` reads it."""
     task, name, args, program = command
+    args = arguments_of(machine, name, args)
     return " ".join(["call c", str(task), name, *map(str, args), *(["0"] * (2 - len(args)) + ["prog", program] if program else [])])
+
+
+def arguments_of(machine, name, args):
+    """The arguments of a call as a machine has them: clone's flags, which stand first in a command, may be its second."""
+    return (*[0] * machine.flags_of_clone, *args) if name == "clone" else args
 
 
 def asked_of(machine, command):
     """A command as the real side reads it."""
     task, name, args, program = command
+    args = arguments_of(machine, name, args)
     numbers = [task, machine.number(name), *args, *[0] * (6 - len(args))]
     return ":".join([*(f"{number:x}" for number in numbers), *([program] if program else [])])
 
@@ -140,12 +146,12 @@ class Beside:
         return value, None
 
 
-def with_probes(commands):
+def with_probes(machine, commands):
     """The lines of a script in which each command is followed by a call to each task, and how many of these there are."""
     lines, counts, made = [], [], 1
     for command in commands:
         made += command[1] in ("fork", "clone")
-        lines += [line_of(command), *(f"call c {task} sched_yield" for task in range(1, made + 1))]
+        lines += [line_of(machine, command), *(f"call c {task} sched_yield" for task in range(1, made + 1))]
         counts.append(made)
     return ["create c b1", "start c", *lines, "kill c 9", "delete c"], counts
 
@@ -175,7 +181,7 @@ def right_answers(sides, commands, said):
 def compare(sides, tally, scripts):
     """Has scripts carried out by both."""
     first = sides.exported(sides.machine.run, ALL)
-    probed = [with_probes(commands) for commands in scripts]
+    probed = [with_probes(sides.machine, commands) for commands in scripts]
     replies = sides.script(ALL, [line for lines, _ in probed for line in lines])
     at, rights = 0, []
     for commands, (lines, counts) in zip(scripts, probed):
@@ -186,7 +192,7 @@ def compare(sides, tally, scripts):
         if told in ("no namespace", "no /proc"):
             tally.untried = [f"all of it: {told} for a tree of tasks"]
             continue
-        compare_answers(tally, right, told.split(";"))
+        compare_answers(sides.machine, tally, right, told.split(";"))
 
 
 def kind_of(command, wanted):
@@ -201,7 +207,7 @@ def kind_of(command, wanted):
     return name if not told.startswith("-") else f"{name} fails"
 
 
-def compare_answers(tally, right, answers):
+def compare_answers(machine, tally, right, answers):
     """Compares the answers of a script, up to the first that differs."""
     for place, (command, wanted, named) in enumerate(right):
         told = answers[place] if place < len(answers) else "nothing"
@@ -209,7 +215,7 @@ def compare_answers(tally, right, answers):
         tally.see(kind_of(command, wanted))
         if named and is_right:
             tally.name(named)
-        tally.count(is_right, lambda: f"{[line_of(it) for it, _, _ in right[: place + 1]]}: wanted {wanted}, the kernel: {told}")
+        tally.count(is_right, lambda: f"{[line_of(machine, it) for it, _, _ in right[: place + 1]]}: wanted {wanted}, the kernel: {told}")
         if not is_right:
             return
 

@@ -3,6 +3,7 @@ import struct
 
 LD, LDI, LDX, RET, RET_A, JA, TAX, TXA, NEG = 0x20, 0x00, 0x01, 0x06, 0x16, 0x05, 0x07, 0x87, 0x84
 LD_MEM, LDX_MEM, ST, STX = 0x60, 0x61, 0x02, 0x03
+JEQ = 0x15
 JUMPS_K, JUMPS_X = (0x15, 0x25, 0x35, 0x45), (0x1D, 0x2D, 0x3D, 0x4D)
 JUMPS = JUMPS_K + JUMPS_X
 ALU_K, ALU_X, SHIFTS = (0x04, 0x14, 0x44, 0x54, 0xA4), (0x0C, 0x1C, 0x4C, 0x5C, 0xAC), (0x64, 0x74)
@@ -22,6 +23,13 @@ ALLOW = 0x7FFF0000
 def digits(program):
     """The bytes of a program, in digits."""
     return b"".join(struct.pack("<HBBI", *insn) for insn in program).hex()
+
+
+def turned(filtered):
+    """A filter of a big-endian machine with the lowest byte of a number first: instead of a half of a number of 64 bits, which stand at 8 to
+    63 of a record, it loads the other one."""
+    program = [*struct.iter_unpack(">HBBI", filtered)]
+    return bytes.fromhex(digits((code, jt, jf, k ^ 4 if code == LD and 8 <= k < 64 and k % 4 == 0 else k) for code, jt, jf, k in program))
 
 
 def verdict(dice):

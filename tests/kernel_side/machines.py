@@ -8,7 +8,7 @@ from harness.places import TOP
 # The columns of docs/linux-calls.txt.
 COLUMNS = (
     *("linux-x86-64", "linux-x86", "linux-x32", "linux-aarch64", "linux-arm"),
-    *("linux-riscv64", "linux-ppc64le", "linux-loongarch64"),
+    *("linux-riscv64", "linux-ppc64le", "linux-loongarch64", "linux-s390x", "linux-s390"),
 )
 X32 = 0x40000000
 
@@ -25,6 +25,10 @@ class Machine:
     besides: tuple  # names that a bundle may have beside it
     bits: int = 64  # of a register
     further: tuple = ()  # numbers that are no call of its own, and are tried as such
+    number_bits: int = 32  # of a number, as the kernel takes it
+    is_big_endian: bool = False
+    flags_of_clone: int = 0  # which of its arguments these are
+    in_memory: tuple = ()  # calls whose arguments stand in memory, where no filter sees them
 
     def number(self, name, way=0):
         """The number of a call by a way, or None where the machine has none of this name."""
@@ -89,4 +93,28 @@ PPC64LE = Machine(
     listed="SCMP_ARCH_PPC64LE",
     besides=("SCMP_ARCH_RISCV64",),
 )
-MACHINES = {machine.name: machine for machine in (X86_64, AARCH64, ARM, RISCV64, PPC64LE)}
+S390X = Machine(
+    name="s390x",
+    whole="linux-s390x",
+    run="linux-s390x",
+    ways=(("s", "linux-s390x"),),
+    listed="SCMP_ARCH_S390X",
+    besides=("SCMP_ARCH_S390",),
+    number_bits=16,
+    is_big_endian=True,
+    flags_of_clone=1,
+    in_memory=("mmap",),
+)
+S390 = Machine(
+    name="s390",
+    whole="linux-s390x",
+    run="",
+    ways=(("s", "linux-s390"),),
+    listed="SCMP_ARCH_S390X",
+    besides=("SCMP_ARCH_S390",),
+    bits=32,
+    number_bits=16,
+    is_big_endian=True,
+    flags_of_clone=1,
+)
+MACHINES = {machine.name: machine for machine in (X86_64, AARCH64, ARM, RISCV64, PPC64LE, S390X, S390)}

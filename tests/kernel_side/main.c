@@ -20,7 +20,7 @@ static int digit(char c)
 	return -1;
 }
 
-long read_bytes(const char **at, unsigned char *bytes, size_t room)
+static long read_bytes(const char **at, unsigned char *bytes, size_t room)
 {
 	size_t count = 0;
 
@@ -30,6 +30,31 @@ long read_bytes(const char **at, unsigned char *bytes, size_t room)
 		bytes[count++] = digit((*at)[0]) << 4 | digit((*at)[1]);
 		*at += 2;
 	}
+	return count;
+}
+
+/* An instruction as this machine has it. A load of a half, at 8 to 63, is one of the other half of the same number elsewhere. */
+static struct sock_filter own_insn(const unsigned char *bytes)
+{
+	struct sock_filter insn = {
+		bytes[0] | bytes[1] << 8, bytes[2], bytes[3],
+		bytes[4] | bytes[5] << 8 | bytes[6] << 16 | (unsigned int)bytes[7] << 24,
+	};
+
+#if __BYTE_ORDER__ == __ORDER_BIG_ENDIAN__
+	if (insn.code == (BPF_LD | BPF_W | BPF_ABS) && insn.k >= 8 && insn.k < 64 && insn.k % 4 == 0)
+		insn.k ^= 4;
+#endif
+	return insn;
+}
+
+long read_filter(const char **at, struct sock_filter *insns, size_t room)
+{
+	unsigned char *bytes = (unsigned char *)insns;
+	long count = read_bytes(at, bytes, room), i;
+
+	for (i = 0; i < count / 8; i++)
+		insns[i] = own_insn(bytes + 8 * i);
 	return count;
 }
 

@@ -13,7 +13,7 @@ def build(compiler, program, *hows):
     """Builds the real side in the first of some ways in which a compiler can; returns whether there was one."""
     sources = [f"{HERE}/{name}" for name in SOURCES]
     for how in hows:
-        made = subprocess.run([compiler, "-O2", "-Wall", how, "-o", program, *sources], capture_output=True, check=False)
+        made = subprocess.run([*compiler.split(), "-O2", "-Wall", how, "-o", program, *sources], capture_output=True, check=False)
         if made.returncode == 0:
             return True
     return False

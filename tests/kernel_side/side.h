@@ -27,6 +27,16 @@ long enter_by_syscall(const struct call *call);
 /* A call by its number, through the first way. */
 long enter(unsigned long number, unsigned long a, unsigned long b, unsigned long c, unsigned long d);
 
+/* Which argument of clone(2) has its flags: on s390x the second. */
+#if defined(__s390__)
+enum { CLONE_FLAGS = 1 };
+#else
+enum { CLONE_FLAGS = 0 };
+#endif
+
+/* A new process, by clone(2) with these flags. */
+long enter_clone(unsigned long flags);
+
 /* Loads a filter by seccomp(2), and asks for no privilege of this task from now on. */
 long load(const struct sock_filter *insns, unsigned short count);
 long give_up_privileges(void);
@@ -38,8 +48,9 @@ void limit_child(unsigned int seconds);
 /* Ends a child, whatever its filters let through. */
 _Noreturn void leave(void);
 
-/* Reads digits of bytes into room for so many; returns how many bytes, or -1. `at` moves behind them. */
-long read_bytes(const char **at, unsigned char *bytes, size_t room);
+/* Reads a filter, in digits, into room for so many bytes; returns how many bytes, or -1. `at` moves behind them. In the digits the lowest
+ * byte of a number comes first, and the lower half of a number of 64 bits; on a big-endian machine both are turned. */
+long read_filter(const char **at, struct sock_filter *insns, size_t room);
 
 /* Reads a hexadecimal number; `at` moves behind it. */
 unsigned long read_number(const char **at);

@@ -9,8 +9,14 @@ from harness.limits import ENDLESS
 from harness.places import ASK, CCELL
 from harness.rows import Fault
 from kernel_side import real
+from kernel_side.insns import turned
 
 SYSCALL, INT80 = "s", "i"
+
+
+def in_digits(machine, filtered):
+    """The bytes of a machine's filter, in digits, as both sides read them: the lowest byte of a number first."""
+    return (turned(filtered) if machine.is_big_endian else filtered).hex()
 
 
 class Sides:
@@ -43,12 +49,12 @@ class Sides:
         return told
 
     def exported(self, machine, bundle):
-        """The bytes of the filter of a bundle, in digits, or None where it has none."""
+        """The bytes of the filter of a bundle, in digits, the lowest byte of a number first; or None where it has none."""
         with tempfile.NamedTemporaryFile("w", dir=self.room, suffix=".json") as file:
             file.write(bundle)
             file.flush()
             ran = subprocess.run([CCELL, "export", machine, file.name, "raw"], capture_output=True, timeout=ENDLESS, check=False)
-        return ran.stdout.hex() if ran.returncode == 0 else None
+        return None if ran.returncode else in_digits(self.machine, ran.stdout)
 
     def came_of(self, word, carried_out):
         """What the model says comes of a call with a verdict: its result, or None where the task ends."""

@@ -5,10 +5,9 @@ filter and the same ones, and makes the same calls.
 """
 import json
 
-from kernel_side.insns import ACTIONS, ALLOW, LD, NAMELESS, RET, digits
+from kernel_side.insns import ACTIONS, ALLOW, JEQ, LD, NAMELESS, RET, digits
 from kernel_side.sides import SYSCALL, Tally, case_line
 
-JEQ = 0x15
 ALL = json.dumps({"ociVersion": "1.0.2", "linux": {"seccomp": {"defaultAction": "SCMP_ACT_ALLOW"}}})
 MOST_ARGUMENTS = 4
 

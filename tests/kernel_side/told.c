@@ -115,7 +115,7 @@ static void exit_status(void)
 /* In a PID namespace: whether the number of a task that was waited for is given again, once the count is put back. */
 static void number_again(void)
 {
-	pid_t first = enter(SYS_clone, CLONE_NEWPID | SIGCHLD, 0, 0, 0), child, again;
+	pid_t first = enter_clone(CLONE_NEWPID | SIGCHLD), child, again;
 	int file;
 
 	if (first != 0) {
@@ -147,7 +147,7 @@ static void number_again(void)
  * the first, and by which signal it ends. */
 static void first_from_outside(void)
 {
-	pid_t first = enter(SYS_clone, CLONE_NEWPID | SIGCHLD, 0, 0, 0);
+	pid_t first = enter_clone(CLONE_NEWPID | SIGCHLD);
 	int status = 0, lives_on;
 
 	if (first == 0)

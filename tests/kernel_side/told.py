@@ -1,9 +1,9 @@
 """Sentences of docs/KERNEL.md on what Linux does otherwise, or besides: each is tried by itself."""
 import json
 
-from kernel_side.handed import PROCESS, THREAD
-from kernel_side.insns import ALLOW, RET, digits
-from kernel_side.machines import ARM, X86_64
+from kernel_side.handed import PROCESS, THREAD, arguments_of
+from kernel_side.insns import ALLOW, JEQ, LD, RET, digits
+from kernel_side.machines import ARM, S390, S390X, X86_64
 from kernel_side.sides import INT80, SYSCALL, Tally, case_line
 
 ALL, KILL = digits([(RET, 0, 0, ALLOW)]), digits([(RET, 0, 0, 0x80000000)])
@@ -18,6 +18,7 @@ def of_tree(machine, *commands):
     def told(task, name, *args):
         if name == "fork" and machine.number(name) is None:
             name, args = "clone", (PROCESS,)  # a machine without fork
+        args = arguments_of(machine, name, args)
         numbers = [f"{arg:x}" for arg in args if not isinstance(arg, str)]
         filters = [arg for arg in args if isinstance(arg, str)]
         return ":".join([f"{task:x}", f"{machine.number(name):x}", *numbers, *["0"] * (6 - len(numbers)), *filters])
@@ -91,11 +92,25 @@ def of_arm():
         yield f"ARM's number {told} passes no filter", case_line([KILL], [(SYSCALL, nr, [])]), "0 - signal 31"
 
 
+def of_s390(machine):
+    """What is said of the numbers of s390x and s390: the lower 16 bits are the number, and the kernel shows filters no more."""
+    nr = machine.number("getpid")
+    longer = [(SYSCALL, 1 << 16 | nr, [])]
+    kills = digits([(LD, 0, 0, 0), (JEQ, 0, 1, nr), (RET, 0, 0, 0x80000000), (RET, 0, 0, ALLOW)])
+    return [
+        (f"of a number of {machine.name} 16 bits count", case_line([], longer), "- pid end"),
+        (f"filters see 16 bits of a number of {machine.name}", case_line([kills], longer), "0 - signal 31"),
+    ]
+
+
 def sentences(machine):
     """All that is said of a machine."""
     if machine is ARM:
         return [*of_arm()]
-    return [*of_tasks(machine), *of_halves(machine), *(of_x86_64(machine) if machine is X86_64 else ())]
+    if machine is S390:
+        return of_s390(machine)
+    further = {X86_64: of_x86_64, S390X: of_s390}.get(machine)
+    return [*of_tasks(machine), *of_halves(machine), *(further(machine) if further else ())]
 
 
 def is_of_x86(line):
@@ -133,7 +148,11 @@ def run(sides):
 def limit(sides, tally):
     """A task's filters may come to so much, and then a load fails with ENOMEM: in Linux earlier, since it counts its translation."""
     bundle = json.dumps({"ociVersion": "1.0.2", "linux": {"seccomp": {"defaultAction": "SCMP_ACT_ALLOW"}}})
-    count, error = sides.real(["told load_limit"])[0].split()
+    told = sides.real(["told load_limit"])[0]
+    if not told:
+        tally.untried.append("the limit on the length of a task's filters: the time of its child was over")
+        return
+    count, error = told.split()
     lines = ["create c b1", "start c", *["call c 1 seccomp 1 0 0 prog 060000000000ff7f"] * (MODEL_LIMIT + 1)]
     replies = sides.script(bundle, lines)[2:]
     loaded = replies.index("failed 12") if "failed 12" in replies else len(replies)

@@ -139,7 +139,7 @@ static long read_command(const char **at, struct call *call, struct sock_filter 
 	}
 	if (**at == ':') {
 		++*at;
-		bytes = read_bytes(at, (unsigned char *)program, MOST_INSNS * sizeof(*program));
+		bytes = read_filter(at, program, MOST_INSNS * sizeof(*program));
 	}
 	*insns = bytes < 0 ? 0 : bytes / sizeof(*program);
 	return task;
@@ -236,7 +236,7 @@ static int make_tree(void)
 void on_tree(const char *line)
 {
 	static struct sock_filter insns[4096];
-	long bytes = read_bytes(&line, (unsigned char *)insns, sizeof(insns));
+	long bytes = read_filter(&line, insns, sizeof(insns));
 	unsigned long space = geteuid() == 0 ? CLONE_NEWPID : CLONE_NEWPID | CLONE_NEWUSER;
 	time_t end = time(NULL) + SECONDS;
 	pid_t first;
@@ -250,7 +250,7 @@ void on_tree(const char *line)
 		puts("no /proc");
 		return;
 	}
-	first = enter(SYS_clone, space | SIGCHLD, 0, 0, 0);
+	first = enter_clone(space | SIGCHLD);
 	if (first == 0)
 		be_first(insns, bytes / 8);
 	if (first < 0) {

@@ -85,10 +85,10 @@ static long make_task(struct slot *slot, const struct call *call)
 {
 	long made;
 
-	if (call->number == SYS_clone && call->args[0] & CLONE_THREAD) {
+	if (call->number == SYS_clone && call->args[CLONE_FLAGS] & CLONE_THREAD) {
 		int next = atomic_fetch_add(&tree->stacks, 1) % MOST_TASKS;
 
-		made = clone(begin_thread, stacks[next] + STACK, (int)call->args[0], slot);
+		made = clone(begin_thread, stacks[next] + STACK, (int)call->args[CLONE_FLAGS], slot);
 		return made < 0 ? -errno : made;
 	}
 	made = enter_by_syscall(call);

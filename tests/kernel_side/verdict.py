@@ -68,7 +68,7 @@ class Records:
     def of(self, call):
         """The record of a call, as `ask` reads it."""
         way, nr, args = call
-        return record(nr & 0xFFFFFFFF, self.machine.token(way), args, self.behind[way])
+        return record(nr % 2**self.machine.number_bits, self.machine.token(way), args, self.behind[way])
 
     def numbers(self):
         """Numbers that filters compare with: halves, calls, tokens and addresses."""
@@ -131,6 +131,7 @@ def compare(records, tally, cases):
     for filtered, calls in cases:
         asked += [f"filter bytes {filtered}", *(f"filter run {records.of(call)}" for call in calls)]
     said, came = iter(sides.modelled(asked)), sides.real([case_line([filtered], calls) for filtered, calls in cases])
+    ask_sockets_free(records, [call for _, calls in cases for call in calls])
     for (filtered, calls), told in zip(cases, came):
         next(said)
         words = [next(said) for _ in calls]
@@ -139,7 +140,7 @@ def compare(records, tally, cases):
         for (way, nr, args), (word, *_) in zip(calls, words):
             if not word.startswith("0x"):
                 raise Fault(f"no filter that the model takes: {filtered}, {word}")
-            free = records.free.get((way, nr)) or sockets_free(records, nr, args)
+            free = records.free.get((way, nr)) or records.free[way, nr, tuple(args)]
             result = sides.came_of(int(word, 16), free)
             tally.see("the task ends" if result is None else "carried out" if result == free else "answers an error")
             if result is None or result.startswith("signal "):
@@ -150,12 +151,12 @@ def compare(records, tally, cases):
         tally.count(is_right, lambda: f"{case_line([filtered], calls)}: the model: {words}, {right}, {right_end}; the kernel: {told}")
 
 
-def sockets_free(records, nr, args):
-    """What comes of a call of `socket` that nothing refuses."""
-    key = SYSCALL, nr, tuple(args)
-    if key not in records.free:
-        records.free[key] = came_free(records.sides.real([case_line([], [(SYSCALL, nr, args)])])[0])
-    return records.free[key]
+def ask_sockets_free(records, calls):
+    """Asks what comes of calls of `socket` that nothing refuses: of those of which it is not known."""
+    keys = dict.fromkeys((way, nr, tuple(args)) for way, nr, args in calls if (way, nr) not in records.free)
+    asked = [key for key in keys if key not in records.free]
+    told = records.sides.real([case_line([], [key]) for key in asked])
+    records.free |= {key: came_free(line) for key, line in zip(asked, told)}
 
 
 def drawn_case(dice, machine, filtered):

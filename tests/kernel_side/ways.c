@@ -104,6 +104,34 @@ __asm__(".text\n"
 	"	bnslr\n"
 	"	neg 3, 3\n"
 	"	blr\n");
+#elif defined(__s390x__)
+__asm__(".text\n"
+	".balign 4\n"
+	".globl enter_by_syscall, behind_syscall\n"
+	".type enter_by_syscall, @function\n"
+	"enter_by_syscall:\n"
+	"	stmg %r6, %r7, 48(%r15)\n"
+	"	lg %r1, 0(%r2)\n"
+	"	lmg %r3, %r7, 16(%r2)\n"
+	"	lg %r2, 8(%r2)\n"
+	"	svc 0\n"
+	"behind_syscall:\n"
+	"	lmg %r6, %r7, 48(%r15)\n"
+	"	br %r14\n");
+#elif defined(__s390__)
+__asm__(".text\n"
+	".balign 4\n"
+	".globl enter_by_syscall, behind_syscall\n"
+	".type enter_by_syscall, @function\n"
+	"enter_by_syscall:\n"
+	"	stm %r6, %r7, 24(%r15)\n"
+	"	l %r1, 0(%r2)\n"
+	"	lm %r3, %r7, 8(%r2)\n"
+	"	l %r2, 4(%r2)\n"
+	"	svc 0\n"
+	"behind_syscall:\n"
+	"	lm %r6, %r7, 24(%r15)\n"
+	"	br %r14\n");
 #else
 #error "no way into the kernel is written for this machine"
 #endif

@@ -57,6 +57,8 @@ def run(sides, dice, more):
     lacked = sorted({name for name, *_ in rows()} - {name for name, *_ in every})
     if lacked:
         tally.untried.append(f"calls that {sides.machine.name} has not: {' '.join(lacked)}")
+    every = [row for row in every if row[0] not in sides.machine.in_memory]
+    tally.untried += [f"{name}: {sides.machine.name} has its arguments in memory" for name in sides.machine.in_memory]
     compare_with_page(tally, every)
     uppers = [[*UPPERS, *(dice.below(2**32 - 1) + 1 for _ in range(more))] for _ in every]
     asked, counts = [], []
