@@ -19,8 +19,7 @@ use Rattle.profile_json.specs.Meaning.{Means}
 use Rattle.serde_json.specs.Data.{Data}
 use Rattle.cert_check.specs.Right.{IsRight}
 use Rattle.maker.specs.Certified.{IsJudgement}
-use Rattle.maker.specs.Finding.{IsBundle, IsYes}
-use Rattle.maker.specs.declared.evidence.evidence.Conviction.{Conviction}
+use Rattle.maker.specs.Finding.{IsBundle}
 use Rattle.maker.specs.declared.evidence.evidence.Evidence.{Evidence}
 use Rattle.maker.specs.declared.evidence.evidence.Evidence.TheVariants.{Certificate, Convicting}
 use Rattle.maker.specs.declared.unready.Unready.{Unready}
