@@ -1,4 +1,4 @@
-mod RunLaws
-mod TurnLaws
-mod AboveLaws
-mod StackLaws
+pub mod RunLaws
+pub mod TurnLaws
+pub mod AboveLaws
+pub mod StackLaws

@@ -1,0 +1,22 @@
+use Rattle.std.proofs.Common.{◌≡◌, ◌∙◌, ◌+◌, List, ap, length, subst}
+use Rattle.bpf_insn.specs.declared.instruction.Insn.{Insn}
+use Rattle.bpf_insn.specs.Bytes.{insns_of}
+use Rattle.flatten.specs.inner.Turns.{ArePlain}
+use Rattle.other_calls.specs.Guarded.{IsGuarded}
+use Rattle.other_calls.specs.inner.Guard.{base, guard}
+use Rattle.other_calls.proofs.GuardLaws.{guarded_is, if_ok}
+use Rattle.other_calls.proofs.made.guarded.Goals as goal
+
+pub returns-in-Ok-made_of-clause-guarded : goal.returns-in-Ok-made_of-clause-guarded
+returns-in-Ok-made_of-clause-guarded c =
+    let machines = c.args.machines.now in
+    let p : List Insn = insns_of c.args.filter.now in
+    let plain : ArePlain p = subst ArePlain c.in-Ok.ensures.same c.in-Ok.ensures.plain in
+    let same : c.deref.result.now ≡ p = c.deref.ensures.value ∙ c.in-Ok.ensures.same in
+    let made : c.deref-in-Ok-made_of.result.now ≡ guard machines (length p + 1) (base p) =
+    c.deref-in-Ok-made_of.ensures.value ∙ c.in-Ok-made_of.ensures
+    ∙ ap (λ (q : List Insn). guard machines (length q + 1) (base q)) same in
+    if_ok c.spelled.result (λ bytes. insns_of bytes.items ≡ c.deref-in-Ok-made_of.result.now)
+    (λ bytes. IsGuarded machines p (insns_of bytes.items))
+    (λ bytes h. guarded_is machines p (insns_of bytes.items) plain c.in-Ok.ensures.accepted (h ∙ made))
+    c.spelled.ensures

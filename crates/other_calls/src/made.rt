@@ -1,0 +1,64 @@
+//! From a filter to the one with which it is judged.
+ghost use Rattle.std.specs.Prelude.{◌≡◌, ◌≤◌, ◌+◌, IfOk, None, length};
+ghost use Rattle.bpf_insn.specs.Bytes.{insns_of, view_fault};
+ghost use Rattle.kernel_check.specs.Accepted.{IsAccepted};
+ghost use Rattle.other_calls.specs.Guarded.{IsGuarded};
+ghost use Rattle.other_calls.specs.inner.Guard as spec;
+
+use crate::guard::guard;
+use crate::plain::plain_insns;
+use crate::turned::base_of;
+use crate::unguarded::Unguarded;
+use bpf_insn::{Insn, MAX_INSNS, encode_into};
+use call_tables::Arch;
+use std::alloc::{AllocError, Global};
+
+// The program that is made of another, which has fewer instructions.
+fn made_of(alloc: Global, machines: &[Arch], program: &[Insn]) -> Result<Vec<Insn>, Unguarded>
+    requires { length program.now ≤ 4096 }
+    ensures { IfOk result (λ all. all.items ≡ spec.guard machines.now (length program.now + 1) (spec.base program.now)) }
+{
+    let Ok(base) = base_of(alloc, program) else {
+        return Err(Unguarded::OutOfMemory);
+    };
+    guard(alloc, machines, program.len() + 1, base)
+}
+
+// The bytes of a program.
+fn encoded(alloc: Global, program: &[Insn]) -> Result<Vec<u8>, AllocError>
+    requires { length program.now ≤ 4096 }
+    ensures { IfOk result (λ bytes. insns_of bytes.items ≡ program.now) }
+{
+    let mut bytes = vec![in alloc; 0u8; 8 * program.len()]?;
+    encode_into(program, &mut bytes);
+    Ok(bytes)
+}
+
+// The same, unless it has too many instructions.
+fn spelled(alloc: Global, program: &[Insn]) -> Result<Vec<u8>, Unguarded>
+    ensures { IfOk result (λ bytes. insns_of bytes.items ≡ program.now) }
+{
+    if program.len() > MAX_INSNS {
+        return Err(Unguarded::TooLong);
+    }
+    match encoded(alloc, program) {
+        Ok(bytes) => Ok(bytes),
+        Err(_no_memory) => Err(Unguarded::OutOfMemory),
+    }
+}
+
+/// The bytes of a filter that gives the calls of machines what this filter gives, and kills each other just where this one allows it.
+pub fn guarded(alloc: Global, machines: &[Arch], filter: &[u8]) -> Result<Vec<u8>, Unguarded>
+    ensures program { IfOk result (λ _. view_fault filter.now ≡ None) }
+    ensures accepted { IfOk result (λ _. IsAccepted (insns_of filter.now)) }
+    ensures guarded { IfOk result (λ made. IsGuarded machines.now (insns_of filter.now) (insns_of made.items)) }
+{
+    let program = match plain_insns(alloc, filter) {
+        Ok(program) => program,
+        Err(why) => return Err(why),
+    };
+    match made_of(alloc, machines, &program) {
+        Ok(made) => spelled(alloc, &made),
+        Err(why) => Err(why),
+    }
+}
