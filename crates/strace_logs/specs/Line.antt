@@ -9,7 +9,8 @@ use Rattle.texts.specs.Numbers.{decimal_at, hexadecimal_at}
 use Rattle.texts.specs.Splits.{behind, split_at}
 use Rattle.call_tables.specs.declared.arch.Arch.{Arch}
 use Rattle.call_tables.specs.declared.arch.Arch.TheVariants.{X86_64, Aarch64, LinuxX86_64, LinuxX86, LinuxX32}
-use Rattle.call_tables.specs.declared.arch.Arch.TheVariants.{LinuxAarch64, LinuxArm, LinuxRiscv64, LinuxPpc64le, LinuxLoongarch64, LinuxS390x, LinuxS390}
+use Rattle.call_tables.specs.declared.arch.Arch.TheVariants.{LinuxAarch64, LinuxArm, LinuxRiscv64}
+use Rattle.call_tables.specs.declared.arch.Arch.TheVariants.{LinuxPpc64le, LinuxLoongarch64, LinuxS390x, LinuxS390}
 use Rattle.call_tables.specs.Arch.{table_of, token_of}
 use Rattle.call_tables.specs.Table.{number_in}
 use Rattle.call_record.specs.Words.{words_from}
