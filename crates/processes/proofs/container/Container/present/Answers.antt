@@ -5,38 +5,32 @@ use Rattle.std.proofs.lemmas.Option.{slice_get_read}
 use Rattle.std.proofs.lemmas.Result.{IfOk-weaker, on_err_weaker}
 use Rattle.call_record.specs.declared.layout.Record.{Record}
 use Rattle.call_record.specs.Ends.{ends_of}
-use Rattle.call_record.specs.Verdict.{is_through}
-use Rattle.processes.specs.declared.outcome.Outcome.TheVariants.{Denied}
-use Rattle.processes.specs.Attached.{Attached}
+use Rattle.processes.specs.declared.outcome.Outcome.{Outcome}
+use Rattle.processes.specs.Attached.{Beside}
 use Rattle.processes.specs.Calls.{row_of}
-use Rattle.processes.specs.Kernel.{Answer, can_grow, carried_out, ended_by_verdict, judged, may_grow, presented, verdict_on}
+use Rattle.processes.specs.Kernel.{can_grow, carried_out, ended_by_verdict, judged, judged_by, may_grow, passes, presented}
+use Rattle.processes.specs.Kernel.{verdict_on, withheld}
 use Rattle.processes.specs.Tasks.{Process, Processes, live_task}
 use Rattle.processes.specs.Table.{processes_of}
 use Rattle.processes.specs.Kept.{all_of, process_of}
 use Rattle.processes.proofs.container.Container.present.Goals as goal
 
-denied : (n v : ℕ) (t : Process) (r : Record) (a : Attached) (ps after : Processes)
-    → live_task n ps.tasks ≡ Some t → v ≡ verdict_on r t → is_through v ≡ false
-    → after ≡ ended_by_verdict (ends_of v) t ps → (Denied v, after) ≡ presented n r a ps
-denied n v t r a ps after found is barred ends = rw found (subst (λ w. (Denied v, after)
-    ≡ judged w t r a ps) is (whole ∙ ap by (sym barred)))
-  where
-    by : Bool → Answer
-    by b = if b then carried_out (row_of ps.native r) t r a ps else (Denied v, ended_by_verdict (ends_of v) t ps)
+barred : (n v : ℕ) (t : Process) (r : Record) (b : Beside) (outcome : Outcome) (ps after : Processes)
+    → live_task n ps.tasks ≡ Some t → v ≡ verdict_on r t → withheld v r b.response t ≡ Some outcome
+    → after ≡ ended_by_verdict (ends_of v) t ps → (outcome, after) ≡ presented n r b ps
+barred n v t r b outcome ps after found is stays ends = rw found (subst (λ w. (outcome, after) ≡ judged w t r b ps) is
+    (ap (λ qs. (outcome, qs)) ends ∙ ap (λ o. judged_by o v t r b ps) (sym stays)))
 
-    whole : (Denied v, after) ≡ by false
-    whole = ap (λ qs. (Denied v, qs)) ends
+let_through : (n v : ℕ) (t : Process) (r : Record) (b : Beside) (ps : Processes)
+    → live_task n ps.tasks ≡ Some t → v ≡ verdict_on r t → withheld v r b.response t ≡ None
+    → carried_out (row_of ps.native r) t r b.attached ps ≡ presented n r b ps
+let_through n v t r b ps found is through = rw found (subst (λ w. carried_out (row_of ps.native r) t r b.attached ps
+    ≡ judged w t r b ps) is (ap (λ o. judged_by o v t r b ps) (sym through)))
 
-let_through : (n v : ℕ) (t : Process) (r : Record) (a : Attached) (ps : Processes)
-    → live_task n ps.tasks ≡ Some t → v ≡ verdict_on r t → is_through v ≡ true
-    → carried_out (row_of ps.native r) t r a ps ≡ presented n r a ps
-let_through n v t r a ps found is through = rw found (subst (λ w. carried_out (row_of ps.native r) t r a ps
-    ≡ judged w t r a ps) is (rw through refl))
-
-grows : (n v : ℕ) (t : Process) (r : Record) (a : Attached) (ps : Processes) → live_task n ps.tasks ≡ Some t
-    → v ≡ verdict_on r t → is_through v ≡ true
-    → may_grow (row_of ps.native r) a ps ≡ true → can_grow n r a ps ≡ true
-grows n v t r a ps found is through grow = rw found (subst (λ w. (is_through w && may_grow (row_of ps.native r) a ps)
+grows : (n v : ℕ) (t : Process) (r : Record) (b : Beside) (ps : Processes) → live_task n ps.tasks ≡ Some t
+    → v ≡ verdict_on r t → withheld v r b.response t ≡ None
+    → may_grow (row_of ps.native r) b.attached ps ≡ true → can_grow n r b ps ≡ true
+grows n v t r b ps found is through grow = rw found (subst (λ w. (passes w r b t && may_grow (row_of ps.native r) b.attached ps)
     ≡ true) is (rw (through, grow) refl))
 
 pub returns-in_default-clause-ok : goal.returns-in_default-clause-ok
