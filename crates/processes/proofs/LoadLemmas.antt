@@ -152,3 +152,12 @@ pub load_own : (how : Loading) (program : List Insn) (t : Process) (ps : Process
 load_own how program t ps h less alone =
     load_fits how program t ps h less
     ∙ ap (λ b. unless_conflict how (first_conflict b t ps) ps (with_filter how program t ps)) alone
+
+-- what a test by `!` tells
+pub is_not : (b : Bool) → not b ≡ true → b ≡ false
+is_not true h = absurd (cc)
+is_not false h = refl
+
+pub is_so : (b : Bool) → not b ≡ false → b ≡ true
+is_so true h = refl
+is_so false h = absurd (cc)

@@ -6,7 +6,7 @@ use Rattle.processes.specs.Kernel.{conflicts}
 use Rattle.processes.specs.Table.{processes_of}
 use Rattle.processes.specs.Stores.{size_beside}
 use Rattle.processes.specs.Kept.{all_of, process_of}
-use Rattle.processes.proofs.LoadLemmas.{load_big, load_conflict, load_group, load_own}
+use Rattle.processes.proofs.LoadLemmas.{is_not, is_so, load_big, load_conflict, load_group, load_own}
 use Rattle.std.proofs.lemmas.Result.{IfOk-weaker}
 use Rattle.processes.proofs.container.Container.load_program.Goals as goal
 
@@ -52,7 +52,7 @@ returns-then-not-how-clause-ok g c =
     let size : c.size.result ≡ size_beside (seen t.filters) = rw caller at c.size.ensures.size in
     let small : length (accepted_insns c.args.program.now) + size_beside (seen t.filters) ≤ 32768 = omega arith in
     let less : g.S.Store.loads_of c.args.self.now.store < 4294967295 = omega (arith, c.loads.ensures) in
-    let alone : c.args.how.for_all ≡ false = c.if-not-how.true in
+    let alone : c.args.how.for_all ≡ false = is_not c.args.how.for_all c.if-not-how.true in
     let ps = processes_of c.args.self.now in
     let program = accepted_insns c.args.program.now in
     kept t h (λ u. rw (c.from-number.ensures, caller, alone) refl)
@@ -68,7 +68,7 @@ returns-in-Some-clause-ok g c = λ t h.
     let size : c.size.result ≡ size_beside (seen t.filters) = rw caller at c.size.ensures.size in
     let small : length (accepted_insns c.args.program.now) + size_beside (seen t.filters) ≤ 32768 = omega arith in
     let less : g.S.Store.loads_of c.args.self.now.store < 4294967295 = omega (arith, c.loads.ensures) in
-    let all : c.args.how.for_all ≡ true = c.if-not-how.false in
+    let all : c.args.how.for_all ≡ true = is_so c.args.how.for_all c.if-not-how.false in
     let ps = processes_of c.args.self.now in
     let program = accepted_insns c.args.program.now in
     let found : option_map (λ u. u.number) (find (conflicts (process_of seen t)) (all_of seen c.args.self.now.tasks.items))
@@ -87,7 +87,7 @@ returns-clause-ok g c =
     let size : c.size.result ≡ size_beside (seen t.filters) = rw caller at c.size.ensures.size in
     let small : length (accepted_insns c.args.program.now) + size_beside (seen t.filters) ≤ 32768 = omega arith in
     let less : g.S.Store.loads_of c.args.self.now.store < 4294967295 = omega (arith, c.loads.ensures) in
-    let all : c.args.how.for_all ≡ true = c.if-not-how.false in
+    let all : c.args.how.for_all ≡ true = is_so c.args.how.for_all c.if-not-how.false in
     let ps = processes_of c.args.self.now in
     let program = accepted_insns c.args.program.now in
     let none : option_map (λ u. u.number) (find (conflicts (process_of seen t)) (all_of seen c.args.self.now.tasks.items)) ≡ None =

@@ -49,6 +49,15 @@ index-requires g c =
     ) at c.live_index.ensures.within in
     omega arith
 
+pub withheld-requires : goal.withheld-requires
+withheld-requires g c =
+    let seen = g.S.Store.filters_of c.args.self.now.store in
+    let within : c.in-Some.at < length c.args.self.now.tasks.items = rw (
+      c.in-Some.is,
+      c.deref.ensures.value,
+    ) at c.live_index.ensures.within in
+    omega arith
+
 pub end_by_verdict-requires : goal.end_by_verdict-requires
 end_by_verdict-requires g c =
     let seen = g.S.Store.filters_of c.args.self.now.store in
@@ -58,8 +67,8 @@ end_by_verdict-requires g c =
     ) at c.live_index.ensures.within in
     omega arith
 
-pub returns-then-not-lets_through-clause-ok : goal.returns-then-not-lets_through-clause-ok
-returns-then-not-lets_through-clause-ok g c =
+pub returns-in-Some-withheld-clause-ok : goal.returns-in-Some-withheld-clause-ok
+returns-in-Some-withheld-clause-ok g c =
     let seen = g.S.Store.filters_of c.args.self.now.store in
     let tasks = c.args.self.now.tasks.items in
     let t = c.index.result.now in
@@ -70,9 +79,9 @@ returns-then-not-lets_through-clause-ok g c =
       c.deref.ensures.value,
       c.in-Some.is,
     ) at (c.live_index.ensures.found seen) in
-    denied c.args.task c.verdict-word.result (process_of seen t) c.args.rec.now _ (processes_of c.args.self.now) _ (place
+    barred c.args.task c.verdict-word.result (process_of seen t) c.args.rec.now _ c.in-Some-withheld.outcome (processes_of c.args.self.now) _ (place
     ∙ ap (option_map (process_of seen)) here)
-    c.verdict-word.ensures (sym c.lets_through.ensures ∙ c.if-not-lets_through.true) (c.end_by_verdict.ensures t here)
+    c.verdict-word.ensures (sym (c.withheld.ensures t here) ∙ c.in-Some-withheld.is) (c.end_by_verdict.ensures t here)
 
 pub carry_out-requires : goal.carry_out-requires
 carry_out-requires g c =
@@ -99,7 +108,7 @@ returns-clause-ok g c =
     (λ o kept. kept t here
     ∙ let_through c.args.task c.verdict-word.result (process_of seen t) c.args.rec.now _ (processes_of c.args.self.now) (place
     ∙ ap (option_map (process_of seen)) here)
-    c.verdict-word.ensures (sym c.lets_through.ensures ∙ c.if-not-lets_through.false))
+    c.verdict-word.ensures (sym (c.withheld.ensures t here) ∙ c.in_default-withheld.is))
     c.carry_out.ensures.ok
 
 pub returns-clause-err : goal.returns-clause-err
@@ -120,5 +129,5 @@ returns-clause-growth g c =
     on_err_weaker c.carry_out.result
     (grows c.args.task c.verdict-word.result (process_of seen t) c.args.rec.now _ (processes_of c.args.self.now) (place
     ∙ ap (option_map (process_of seen)) here)
-    c.verdict-word.ensures (sym c.lets_through.ensures ∙ c.if-not-lets_through.false))
+    c.verdict-word.ensures (sym (c.withheld.ensures t here) ∙ c.in_default-withheld.is))
     c.carry_out.ensures.growth
