@@ -131,7 +131,7 @@ barred : (v own : ℕ) (r : Record) (response : Option Response) (t : Process) �
 barred v own r response t shut true told least h =
     let p = answered v own response (least refl) h in
     let is : withheld v r response t ≡ responded v response = rw (shut, told) refl in
-    (p.0, is ∙ p.1.0, p.1.1)
+    (p.0, is ∙ p.1, p.2)
 barred v own r response t shut false told least h = (Denied v, rw (shut, told) refl, refl)
 
 -- where there is no response, it is denied
@@ -148,20 +148,20 @@ denied t r ps shut =
 event_refused : (first : Judge) (n : ℕ) (r : Record) (a : Beside) (ps : Processes) (o : Option Process)
     → live_task n ps.tasks ≡ o → Each (KeepsBehind (only first)) ps.tasks
     → IsRefusal (first.verdict r) → may_be_continued (first.verdict r) a ≡ false → NotCarriedOut (Presented (presented_by o r a ps).0)
-event_refused first n r a ps None e s refusal no = (NoTask, refl, refl)
-event_refused first n r a ps (Some t) e s refusal no =
+event_refused first n r a ps None e s refusal strict = (NoTask, refl, refl)
+event_refused first n r a ps (Some t) e s refusal strict =
     let behind = found (KeepsBehind (only first)) (λ u. is_task n u && is_live u) ps.tasks s t e in
     let v = verdict_on r t in
     let least : is_told v r t ≡ true → is_stricter (first.verdict r) user_notif ≡ false =
     λ told. none_stricter (map (λ f. f.judge.verdict r) t.filters) (first.verdict r) (own_among first t r behind) (told_notifies v r t told) in
-    let p = barred v (first.verdict r) r a.response t (refused first t r behind refusal) (is_told v r t) refl least no in
-    (p.0, ap (λ (o : Option Outcome). Presented (judged_by o v t r a ps).0) p.1.0, p.1.1)
+    let p = barred v (first.verdict r) r a.response t (refused first t r behind refusal) (is_told v r t) refl least strict in
+    (p.0, ap (λ (o : Option Outcome). Presented (judged_by o v t r a ps).0) p.1, p.2)
 
 call_refused : (s : Status) (c : Container) (task : ℕ) (r : Record) (a : Beside) → Sound c
     → IsRefusal (c.first.verdict r) → may_be_continued (c.first.verdict r) a ≡ false → NotCarriedOut (call task r a s c).0
-call_refused Created c task r a s refusal no = (NoTask, refl, refl)
-call_refused Stopped c task r a s refusal no = (NoTask, refl, refl)
-call_refused Running c task r a s refusal no = event_refused c.first task r a c.processes (live_task task c.processes.tasks) refl s refusal no
+call_refused Created c task r a s refusal strict = (NoTask, refl, refl)
+call_refused Stopped c task r a s refusal strict = (NoTask, refl, refl)
+call_refused Running c task r a s refusal strict = event_refused c.first task r a c.processes (live_task task c.processes.tasks) refl s refusal strict
 
 start_refused : (native : Arch) (first : Judge) → IsRefusal (first.verdict (execve_of native))
     → IsDeniedStart (start_reply (first_call native first).0)
@@ -185,10 +185,10 @@ there_by F commands id given m = by (container_at id (world_after F commands)) r
 call_step : (os : List Command) (id : List ℕ) (given : Checked) → MadeBy by_profile os id given → (task : ℕ) (r : Record) (a : Beside)
     → IsRefusal (said (profile_of given) (words r)) → may_be_continued (said (profile_of given) (words r)) a ≡ false
     → NotCarriedOut (step by_profile (Call id task r a) (world_after by_profile os)).0
-call_step os id given m task r a refusal no =
+call_step os id given m task r a refusal strict =
     let c = there_by by_profile os id given m in
     let word : IsRefusal (c.0.first.verdict r) = subst (λ (j : Judge). IsRefusal (j.verdict r)) (sym c.2.0) refusal in
-    let kept : may_be_continued (c.0.first.verdict r) a ≡ false = subst (λ (j : Judge). may_be_continued (j.verdict r) a ≡ false) (sym c.2.0) no in
+    let kept : may_be_continued (c.0.first.verdict r) a ≡ false = subst (λ (j : Judge). may_be_continued (j.verdict r) a ≡ false) (sym c.2.0) strict in
     subst NotCarriedOut (sym (ap (λ o. (acted by_profile (Call id task r a) o).0) c.1))
     (call_refused c.0.status c.0 task r a (sound_after by_profile os id c.0 c.1) word kept)
 
@@ -209,10 +209,10 @@ start_step os id given m c there created refusal =
 
 pub refused_is_not_carried_out : RefusedIsNotCarriedOut
 refused_is_not_carried_out os = record {
-  call = λ i id given task r a at m refusal no. record {
+  call = λ i id given task r a at m refusal strict. record {
     reply = (step by_profile (Call id task r a) (world_after by_profile (take i os))).0;
     at = replies_are_steps by_profile os i (Call id task r a) at;
-    is = call_step (take i os) id given m task r a refusal no;
+    is = call_step (take i os) id given m task r a refusal strict;
   };
   start = λ i id given c at m there created refusal. record {
     reply = (step by_profile (Start id) (world_after by_profile (take i os))).0;
