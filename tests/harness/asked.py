@@ -109,7 +109,8 @@ def outcome_told(text):
     kind, _, value = text.partition("(")
     if kind == "Denied":
         return f"denied {verdict_in(text)}"
-    return {"Done": f"done {value[:-1]}", "Failed": f"failed {value[:-1]}", "Absent": "absent", "NoTask": "no task"}[kind]
+    words = {"Done": "done", "Failed": "failed", "Answered": "answered", "Declined": "declined"}
+    return f"{words[kind]} {value[:-1]}" if kind in words else {"Absent": "absent", "NoTask": "no task"}[kind]
 
 
 def reply_told(text):

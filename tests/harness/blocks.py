@@ -56,8 +56,14 @@ def lines_for(text):
     return expanded(text).split("\n")
 
 
+def response_in(text):
+    """What a listener responds, as it is asked: `continue`, a value, or `error` and a number."""
+    return text if text == "continue" or text.startswith("error ") else f"value {number(text)}"
+
+
 def called(text, native):
-    """A call of a task, `ID TASK WHAT ARGUMENT ..` and perhaps `prog BYTES`, as it is asked."""
+    """A call of a task, `ID TASK WHAT ARGUMENT ..` and perhaps `prog BYTES` and `answer RESPONSE`, as it is asked."""
+    text, answer, response = text.partition(" answer ")
     name, task, what, *rest = text.split(" ")
     name = "" if name == EMPTY else name
     args, program = (rest[:-2], rest[-1]) if rest[-2:-1] == ["prog"] else (rest, "")
@@ -65,7 +71,8 @@ def called(text, native):
     nr, arch = (number(nr), TOKENS[machine]) if colon else (number_of(native, what), TOKENS[native])
     if nr is None:
         raise Fault(f"no call {what}")
-    return f"{name} {task} {record(nr, arch, [number(arg) for arg in args])} {program}".rstrip(" ")
+    given = f"{program} {response_in(response)}" if answer else program
+    return f"{name} {task} {record(nr, arch, [number(arg) for arg in args])} {given}".rstrip(" ")
 
 
 def asked_of(line, native, places):

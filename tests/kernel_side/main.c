@@ -1,7 +1,8 @@
 /* The real side of tests/kernel: reads a line, carries out on this machine's kernel what it asks, and writes a line of answer.
  *
- * A line begins with its kind: `case` (cases.c), `tree` (tree.c), `width` (widths.c) or `told` (told.c). `ways` asks for the
- * letters of the ways into the kernel, and the addresses behind their instructions. Each is carried out in a child of its own. */
+ * A line begins with its kind: `case` (cases.c), `tree` (tree.c), `width` (widths.c), `told` (told.c) or `listen` (listeners.c).
+ * `ways` asks for the letters of the ways into the kernel, and the addresses behind their instructions. Each is carried out in a
+ * child of its own. */
 #include "side.h"
 
 #include <signal.h>
@@ -91,7 +92,8 @@ static void answer(const char *line)
 	static const struct {
 		const char *kind;
 		void (*on)(const char *line);
-	} kinds[] = { { "case ", on_case }, { "tree ", on_tree }, { "width ", on_width }, { "told ", on_told } };
+	} kinds[] = { { "case ", on_case }, { "tree ", on_tree }, { "width ", on_width }, { "told ", on_told },
+		    { "listen ", on_listen } };
 	size_t i;
 
 	if (strncmp(line, "case ", 5))

@@ -1,6 +1,6 @@
 """All kinds of cases, on both sides of a machine."""
 from harness.dice import Dice
-from kernel_side import check, handed, stacks, told, verdict, widths
+from kernel_side import check, handed, listeners, stacks, told, verdict, widths
 
 ALL = told.ALL
 # The codes that are tried one by one: all there are, where so many cases are asked for.
@@ -15,6 +15,7 @@ def of_kinds(both, count, seed):
     yield verdict.run(both, Dice(seed), count * 3 // 10)
     yield stacks.run(both, Dice(seed), count // 10)
     yield handed.run(both, Dice(seed), count // SCRIPTS + 1)
+    yield listeners.run(both, Dice(seed), count // 10)
     yield widths.run(both, Dice(seed), count // 10000)
     yield told.run(both)
 

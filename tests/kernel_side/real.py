@@ -6,7 +6,7 @@ from harness.places import TOP
 from harness.rows import Fault
 
 HERE = f"{TOP}/tests/kernel_side"
-SOURCES = ("main.c", "ways.c", "enter.c", "cases.c", "tree.c", "tree_tasks.c", "widths.c", "told.c")
+SOURCES = ("main.c", "ways.c", "enter.c", "cases.c", "tree.c", "tree_tasks.c", "widths.c", "told.c", "listeners.c")
 
 
 def build(compiler, program, *hows):

@@ -64,6 +64,7 @@ void end_cases(void);
 void on_tree(const char *line);
 void on_width(const char *line);
 void on_told(const char *line);
+void on_listen(const char *line);
 
 /* What this program is where it was started by execve(2) in a tree. */
 _Noreturn void go_on_in_tree(const char *descriptor);

@@ -1,6 +1,6 @@
 //! Questions on containers of the modelled kernel, each asked of both kernels and answered by both: `admit ID PLACE`, which expels
-//! that id first and admits it with what was kept at a place; `call ID TASK RECORD PROGRAM`, where the program may be missing;
-//! `signal ID SIG`, `expel ID`, `live ID`, and `task ID TASK`, which shows a task. `anew` begins without containers, and with nothing
+//! that id first and admits it with what was kept at a place; `call ID TASK RECORD PROGRAM RESPONSE`, where the program may be empty
+//! and the response, of a listener, missing; `signal ID SIG`, `expel ID`, `live ID`, and `task ID TASK`, which shows a task. `anew` begins without containers, and with nothing
 //! kept.
 
 use crate::answers::Answers;
@@ -84,7 +84,7 @@ fn present<K: Kernel>(kernel: &mut K, out: &mut Answers, id: &Id, mut question: 
     } else {
         Some(program.as_slice())
     };
-    match kernel.present(id, task, &call, attached) {
+    match kernel.present(id, task, &call, attached, question.response()) {
         Ok(outcome) => out.tell(format_args!("{outcome:?}")),
         Err(_) => out.keep(false),
     }

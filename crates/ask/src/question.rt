@@ -2,6 +2,7 @@
 
 use call_record::{Record, Word};
 use call_tables::Arch;
+use processes::Response;
 
 /// What is left of a question.
 #[derive(Clone, Copy)]
@@ -45,6 +46,16 @@ impl<'a> Question<'a> {
     /// The next machine.
     pub fn machine(&mut self) -> Arch {
         Arch::called(self.part()).unwrap_or(Arch::X86_64)
+    }
+
+    /// What a listener responds: `continue`, `value N`, `error N`, or nothing.
+    pub fn response(&mut self) -> Option<Response> {
+        match self.part() {
+            "continue" => Some(Response::Continue),
+            "value" => Some(Response::Value(self.number())),
+            "error" => Some(Response::Error(self.part().parse::<u16>().unwrap_or(0))),
+            _ => None,
+        }
     }
 
     /// The next six arguments.

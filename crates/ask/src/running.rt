@@ -1,13 +1,13 @@
 //! The runtime over the kernel whose tasks have lists of filters: `runtime` and commands with tabs between, each `create ID PLACE`,
-//! where the place is that of what was kept, `start ID`, `kill ID SIG`, `delete ID`, `state ID`, `call ID TASK RECORD PROGRAM`, or
-//! `id - PLACE`, which asks for the id of a container by its place.
+//! where the place is that of what was kept, `start ID`, `kill ID SIG`, `delete ID`, `state ID`, `call ID TASK RECORD PROGRAM
+//! RESPONSE`, or `id - PLACE`, which asks for the id of a container by its place.
 
 use crate::answers::Answers;
 use crate::desk::Made;
 use crate::question::Question;
 use call_record::Record;
 use lifecycle::{Command, Runtime};
-use processes::TaskTable;
+use processes::{Response, TaskTable};
 
 /// Tells the replies to commands.
 pub fn answer(kept: &[Made], out: &mut Answers, question: Question<'_>) {
@@ -72,13 +72,14 @@ fn call_of<'a, 'c, 'r: 'c>(
     task: u64,
     record: Record,
     program: &'c [u8],
+    response: Option<Response>,
 ) -> Command<'a, 'c> {
     let attached = if program.is_empty() {
         None
     } else {
         Some(program)
     };
-    Command::Call(id, task, record, attached)
+    Command::Call(id, task, record, attached, response)
 }
 
 // Makes a call.
@@ -91,7 +92,9 @@ fn call(
     let task = question.number();
     let record = question.record();
     let program = out.bytes(question.part());
-    carry_out(runtime, out, call_of(id, task, record, program.as_slice()));
+    let response = question.response();
+    let command = call_of(id, task, record, program.as_slice(), response);
+    carry_out(runtime, out, command);
 }
 
 fn tell_id(runtime: &Runtime<'_, TaskTable>, out: &mut Answers, place: usize) {

@@ -1,7 +1,7 @@
 -- THE HEADLINE. Where the checker says yes to a profile, a filter and a certificate, the kernel accepts the filter and its
 -- verdict on every call record is the one that the profile says. So, for every list of lifecycle commands and process
 -- events, the replies are those of the kernel machine whose first judge for each container is its profile, and no call that
--- the profile refuses is carried out.
+-- the profile refuses is carried out. (By a verdict that is no stricter than NOTIFY it refuses none that a listener continues.)
 --
 -- It begins at the rules of the checker, and at what calls tell. `IsFinding`, of Yes, is told by `check_line` where it writes that line,
 -- and by `certify_bundle` where it writes a certificate; `IsRun`, by programs, by `Runtime::run`; `HasAnswered` by `run_bundles` where it
@@ -74,7 +74,7 @@ pub record Headline : Type 0 where
   -- Whatever is commanded, with each profile in the place of its filter it is the same run.
   pub machine : (commands : List Command) (old new : World) (replies : List Reply) → IsRun by_program commands old replies new
       → IsRun by_profile commands old replies new
-  -- Whatever is commanded, a call that a container's profile refuses is not carried out.
+  -- Whatever is commanded, a call that a container's profile refuses is not carried out, unless a listener may continue it.
   pub refused : RefusedIsNotCarriedOut
   -- What `ccell run` writes of a script is the answer to it.
   pub run : (native : Arch) (texts : List (List ℕ)) (script before after : List ℕ) (left : Option (List ℕ))

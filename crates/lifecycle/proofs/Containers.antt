@@ -4,7 +4,7 @@ use Rattle.std.proofs.Common.{sym, ap, subst, ◌∙◌, nat_lt}
 use Rattle.call_record.specs.declared.layout.Record.{Record}
 use Rattle.cert_check.specs.declared.checked.Checked.{Checked}
 use Rattle.cert_check.specs.Checked.{profile_of}
-use Rattle.processes.specs.Attached.{Attached}
+use Rattle.processes.specs.Attached.{Beside}
 use Rattle.processes.specs.Ids.{is_id}
 use Rattle.processes.specs.Kernel.{is_fatal, presented, signalled}
 use Rattle.processes.specs.Views.{same_text}
@@ -28,7 +28,7 @@ pub record IsKept (P : Container → Type 0) : Type 0 where
   pub stopped : (c : Container) → P c → P (record c { status = Stopped })
   pub started : (c : Container) → P c → let p = first_call c.processes.native c.first in P (running c (left_after p.0 p.1))
   pub signal : (c : Container) (sig : ℕ) → P c → P (running c (signalled sig c.processes))
-  pub event : (c : Container) (n : ℕ) (r : Record) (a : Attached) → P c → P (running c (presented n r a c.processes).1)
+  pub event : (c : Container) (n : ℕ) (r : Record) (a : Beside) → P c → P (running c (presented n r a c.processes).1)
 
 module _ (P : Container → Type 0) where
   -- where there is a container, it has the property
@@ -62,7 +62,7 @@ module _ (P : Container → Type 0) where
     deletes Created c h = h
     deletes Running c h = h
 
-    calls : (n : ℕ) (r : Record) (a : Attached) (s : Status) (c : Container) → P c → Leaves (call n r a s c)
+    calls : (n : ℕ) (r : Record) (a : Beside) (s : Status) (c : Container) → P c → Leaves (call n r a s c)
     calls n r a Running c h = k.event c n r a h
     calls n r a Created c h = h
     calls n r a Stopped c h = h

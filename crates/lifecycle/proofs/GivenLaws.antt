@@ -4,13 +4,13 @@ use Rattle.std.proofs.Common.{length, take, refl, sym, ap, subst, ◌∙◌, ari
 use Rattle.std.proofs.lemmas.List.{take_all}
 use Rattle.cert_check.specs.declared.checked.Checked.{Checked}
 use Rattle.cert_check.specs.Checked.{profile_of}
-use Rattle.processes.specs.Attached.Attached.{NoBytes}
+use Rattle.processes.specs.Attached.{nothing_beside}
 use Rattle.processes.specs.Begin.{execve_of}
 use Rattle.processes.specs.Ids.{is_id}
 use Rattle.processes.specs.Tasks.{Processes, admitted}
 use Rattle.processes.specs.Views.{same_text}
 use Rattle.processes.specs.declared.outcome.Outcome.{Outcome}
-use Rattle.processes.specs.declared.outcome.Outcome.TheVariants.{Done, Failed, Absent, Denied, NoTask}
+use Rattle.processes.specs.declared.outcome.Outcome.TheVariants.{Done, Failed, Absent, Denied, Answered, Declined, NoTask}
 use Rattle.processes.proofs.Changes.{either, native_stays, native_stays_signalled}
 use Rattle.lifecycle.specs.declared.command.Reply.TheVariants.{Accepted, Refused}
 use Rattle.lifecycle.specs.declared.fault.Refusal.TheVariants.{BadId}
@@ -140,6 +140,8 @@ left_native (Denied v) ps = native_stays_signalled 9 ps
 left_native (Done n) ps = refl
 left_native (Failed e) ps = refl
 left_native Absent ps = refl
+left_native (Answered n) ps = refl
+left_native (Declined e) ps = refl
 left_native NoTask ps = refl
 
 given_kept : (F : First) (given : Checked) → IsKept (AsGiven F given)
@@ -148,7 +150,7 @@ given_kept F given = record {
   started = λ c h.
       let native = c.processes.native in
       let p = first_call native c.first in
-      (h.0, left_native p.0 p.1 ∙ (native_stays 1 (execve_of native) NoBytes (admitted native c.first) ∙ h.1));
+      (h.0, left_native p.0 p.1 ∙ (native_stays 1 (execve_of native) nothing_beside (admitted native c.first) ∙ h.1));
   signal = λ c sig h. (h.0, native_stays_signalled sig c.processes ∙ h.1);
   event = λ c n r a h. (h.0, native_stays n r a c.processes ∙ h.1);
 }

@@ -5,8 +5,7 @@ use Rattle.call_tables.specs.declared.arch.Arch.TheVariants.{X86_64, Aarch64}
 use Rattle.call_tables.specs.Machines.{x86_64_table, aarch64_table}
 use Rattle.call_record.specs.Verdict.{strictest_of}
 use Rattle.bpf_insn.specs.Code.{operation_of}
-use Rattle.processes.specs.Attached.{attached_of, is_accepted}
-use Rattle.processes.specs.Attached.Attached.{NoBytes}
+use Rattle.processes.specs.Attached.{beside_of, is_accepted, nothing_beside}
 use Rattle.processes.specs.Tasks.{Judge}
 use Rattle.processes.specs.declared.outcome.Outcome.TheVariants.{Done, Failed, Denied, NoTask}
 use Rattle.processes.proofs.Rows.{allow_all, allowing, call, judging}
@@ -26,10 +25,10 @@ abbrev pub created : Judge → Container
 created judge = record { status = Created; first = judge; processes = unstarted X86_64 }
 
 abbrev pub asks : List ℕ → ℕ → List ℕ → Command
-asks id task name = Call id task (call X86_64 name 0 0) NoBytes
+asks id task name = Call id task (call X86_64 name 0 0) nothing_beside
 
 abbrev pub loads : List ℕ → ℕ → ℕ → Option (List ℕ) → Command
-loads id task operation bytes = Call id task (call X86_64 (codes "seccomp") operation 0) (attached_of bytes)
+loads id task operation bytes = Call id task (call X86_64 (codes "seccomp") operation 0) (beside_of bytes None)
 
 abbrev pub first_names : List (List ℕ)
 first_names = codes "read" ∷ codes "getpid" ∷ codes "fork" ∷ codes "execve" ∷ codes "seccomp" ∷ codes "exit_group" ∷ []
@@ -49,7 +48,7 @@ script =
     ∷ loads c1 1 1 None ∷ loads c1 1 0 None ∷ loads c1 1 1 (Some (5 ∷ 0 ∷ 0 ∷ 0 ∷ 0 ∷ 0 ∷ 0 ∷ 0 ∷ [])) ∷ loads c1 2 1 allow_all
     ∷ asks c1 2 (codes "write") ∷ loads c1 2 1 error_2 ∷ asks c1 2 (codes "getpid") ∷ asks c1 1 (codes "getpid") ∷ asks c1 2 (codes "write")
     ∷ Start c2 ∷ asks c2 1 (codes "fork") ∷ Delete c1 ∷ asks c1 1 (codes "exit_group") ∷ State c1 ∷ asks c1 2 (codes "getpid")
-    ∷ asks c2 2 (codes "getpid") ∷ Call c2 1 (call Aarch64 (codes "write") 0 0) NoBytes ∷ State c2 ∷ State (codes "c9") ∷ []
+    ∷ asks c2 2 (codes "getpid") ∷ Call c2 1 (call Aarch64 (codes "write") 0 0) nothing_beside ∷ State c2 ∷ State (codes "c9") ∷ []
 
 replies : (F : First) → (run F script two).0 ≡
     Presented NoTask ∷ Accepted ∷ Refused NotCreated ∷ Presented (Done 2) ∷ Presented (Done 0) ∷ Presented (Denied 0x00050001)
@@ -76,7 +75,7 @@ refused F = refl
 -- a running container goes on with the threads of group 1, and a signal ends them all
 abbrev pub goes_on : List Command
 goes_on =
-    Start c1 ∷ Call c1 1 (call X86_64 (codes "clone") 0x10000 0) NoBytes ∷ asks c1 1 (codes "exit") ∷ State c1 ∷ Kill c1 1 ∷ State c1
+    Start c1 ∷ Call c1 1 (call X86_64 (codes "clone") 0x10000 0) nothing_beside ∷ asks c1 1 (codes "exit") ∷ State c1 ∷ Kill c1 1 ∷ State c1
     ∷ Kill c1 15 ∷ State c1 ∷ asks c1 2 (codes "read") ∷ []
 
 went_on : (F : First) → (run F goes_on ((c1, created (judging X86_64 [] 0 1)) ∷ [])).0 ≡

@@ -4,15 +4,14 @@ use Rattle.std.proofs.Common.{Result, Ok, Err, OnOk, OnErr}
 use Rattle.std.specs.Option.{option_map}
 use Rattle.call_tables.specs.declared.arch.Arch.{Arch}
 use Rattle.call_record.specs.declared.layout.Record.{Record}
-use Rattle.processes.specs.Attached.{Attached}
-use Rattle.processes.specs.Attached.Attached.{NoBytes}
+use Rattle.processes.specs.Attached.{Beside, nothing_beside}
 use Rattle.processes.specs.Begin.{execve_of}
 use Rattle.processes.specs.Kernel.{Answer, can_grow, grows_by, presented, presented_by, signalled}
 use Rattle.processes.specs.Laws.{Each, HasEnded}
 use Rattle.processes.specs.Tasks.{Judge, Process, Processes, admitted, is_task, live_task, lives}
 use Rattle.processes.specs.Views.{Containers, Same, SetAt, can_grow_in, present_in, same_text}
 use Rattle.processes.specs.declared.outcome.Outcome.{Outcome}
-use Rattle.processes.specs.declared.outcome.Outcome.TheVariants.{Done, Failed, Absent, Denied, NoTask}
+use Rattle.processes.specs.declared.outcome.Outcome.TheVariants.{Done, Failed, Absent, Denied, Answered, Declined, NoTask}
 use Rattle.processes.proofs.GroupLaws.{groups_stay_led, none_outlives_group_1}
 use Rattle.processes.proofs.Numbers.{numbers_ascend}
 use Rattle.lifecycle.specs.declared.command.Reply.TheVariants.{Presented}
@@ -28,7 +27,7 @@ use Rattle.lifecycle.specs.Worlds.{Container}
 
 -- ---- what stays
 
-event_sound : (n : ℕ) (r : Record) (a : Attached) (ps : Processes) → IsSound ps → IsSound (presented n r a ps).1
+event_sound : (n : ℕ) (r : Record) (a : Beside) (ps : Processes) → IsSound ps → IsSound (presented n r a ps).1
 event_sound n r a ps s = record {
   order = numbers_ascend.event n r a ps s.order;
   led = groups_stay_led.event n r a ps s.order s.led;
@@ -54,16 +53,18 @@ left_sound (Denied v) ps s = signal_sound 9 ps s
 left_sound (Done n) ps s = s
 left_sound (Failed e) ps s = s
 left_sound Absent ps s = s
+left_sound (Answered n) ps s = s
+left_sound (Declined e) ps s = s
 left_sound NoTask ps s = s
 
 -- after a first call,
 pub first_sound : (native : Arch) (judge : Judge) → let p = first_call native judge in IsSound (left_after p.0 p.1)
 first_sound native judge =
     let p = first_call native judge in
-    left_sound p.0 p.1 (event_sound 1 (execve_of native) NoBytes (admitted native judge) (begin_sound native judge))
+    left_sound p.0 p.1 (event_sound 1 (execve_of native) nothing_beside (admitted native judge) (begin_sound native judge))
 
 -- an event
-pub present_sound : (n : ℕ) (r : Record) (a : Attached) (o : Option Processes) → SoundIn o → SoundIn (present_in n r a o).1
+pub present_sound : (n : ℕ) (r : Record) (a : Beside) (o : Option Processes) → SoundIn o → SoundIn (present_in n r a o).1
 present_sound n r a None s = tt
 present_sound n r a (Some ps) s = event_sound n r a ps s
 
@@ -101,19 +102,19 @@ none_live : (n : ℕ) (ts : List Process) → Each HasEnded ts → live_task n t
 none_live n [] p = refl
 none_live n (t ∷ ts) p = rw (p.0, not_both (is_task n t)) (none_live n ts p.1)
 
-idle : (n : ℕ) (r : Record) (a : Attached) (ps : Processes) → IsSound ps → lives ps ≡ false → presented n r a ps ≡ (NoTask, ps)
+idle : (n : ℕ) (r : Record) (a : Beside) (ps : Processes) → IsSound ps → lives ps ≡ false → presented n r a ps ≡ (NoTask, ps)
 idle n r a ps s stopped = ap (λ o. presented_by o r a ps) (none_live n ps.tasks (s.none_outlives stopped))
 
-module _ (n : ℕ) (r : Record) (a : Attached) (e : Entry) where
+module _ (n : ℕ) (r : Record) (a : Beside) (e : Entry) where
   -- what a call of a container that was started is answered, and leaves
-  abbrev pub Answered : Option Processes → steps.Result
-  Answered o = (Presented (present_in n r a o).0, Some (container_by Started e (present_in n r a o).1))
+  abbrev pub Shown : Option Processes → steps.Result
+  Shown o = (Presented (present_in n r a o).0, Some (container_by Started e (present_in n r a o).1))
 
   abbrev pub as_begun : Processes → Bool → Container
   as_begun p b = record (container_by Started e (Some p)) { status = if b then Running else Stopped }
 
   begun_by : (p : Processes) → IsSound p → (b : Bool) → lives p ≡ b
-      → call n r a (if b then Running else Stopped) (as_begun p b) ≡ Answered (Some p)
+      → call n r a (if b then Running else Stopped) (as_begun p b) ≡ Shown (Some p)
   begun_by p s true h = refl
   begun_by p s false h =
       let same : presented n r a p ≡ (NoTask, p) = idle n r a p s h in
@@ -121,7 +122,7 @@ module _ (n : ℕ) (r : Record) (a : Attached) (e : Entry) where
       ap (λ (b : Bool). (Presented NoTask, Some (as_begun p b))) (sym h) in
       there ∙ ap (λ (x : Answer). (Presented x.0, Some (container_by Started e (Some x.1)))) (sym same)
 
-  begun : (o : Option Processes) → SoundIn o → let c = container_by Started e o in call n r a c.status c ≡ Answered o
+  begun : (o : Option Processes) → SoundIn o → let c = container_by Started e o in call n r a c.status c ≡ Shown o
   begun None s = refl
   begun (Some p) s = begun_by p s (lives p) refl
 

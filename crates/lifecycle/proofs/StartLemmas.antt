@@ -1,5 +1,5 @@
 -- The call with which a container begins, and what the kernel has after two changes of one container.
-use Rattle.std.proofs.Common.{◌≡◌, ℕ, Bool, true, false, List, Option, Some, refl, if◌then◌else◌, sym, ap, ◌∙◌}
+use Rattle.std.proofs.Common.{◌≡◌, ℕ, Bool, true, false, List, Option, None, Some, refl, if◌then◌else◌, sym, ap, ◌∙◌}
 use Rattle.std.specs.Option.{option_map}
 use Rattle.std.specs.Cmp.Lexicographic.{nat_list_eq_equiv}
 use Rattle.call_tables.specs.declared.arch.Arch.{Arch}
@@ -10,14 +10,14 @@ use Rattle.call_record.specs.declared.layout.Record.{Record}
 use Rattle.call_record.specs.declared.effect.Ends.{Ends}
 use Rattle.call_record.specs.declared.effect.Ends.TheVariants.{Nothing, Task, Group}
 use Rattle.call_record.specs.Ends.{ends_of}
-use Rattle.call_record.specs.Verdict.{is_through}
 use Rattle.cert_check.specs.declared.checked.Checked.{Checked}
 use Rattle.cert_check.specs.Checked.{profile_of}
+use Rattle.processes.specs.Attached.{nothing_beside}
 use Rattle.processes.specs.Attached.Attached.{NoBytes}
 use Rattle.processes.specs.Begin.{execve_of}
 use Rattle.processes.specs.Calls.{row_of}
 use Rattle.processes.specs.First.{begun_with, by_program}
-use Rattle.processes.specs.Kernel.{Answer, carried_out, ended_by_verdict, signalled, verdict_on}
+use Rattle.processes.specs.Kernel.{Answer, carried_out, ended_by_verdict, judged_by, signalled, verdict_on, withheld}
 use Rattle.processes.specs.Tasks.{Judge, Processes, admitted, first_task, lives}
 use Rattle.processes.specs.Views.{Containers, SetAt, present_in, same_text}
 use Rattle.processes.specs.declared.outcome.Outcome.{Outcome}
@@ -108,33 +108,32 @@ ends_by native first Nothing h = let bad : true ≡ false = h in absurd (cc)
 ends_by native first Task h = refl
 ends_by native first Group h = refl
 
-through_by : (native : Arch) (first : Judge) (word v : ℕ) (b : Bool)
-    → let p = if b then carried_out (row_of native (execve_of native)) (first_task first) (execve_of native) NoBytes (admitted native first)
-    else (Denied word, ended_by_verdict (ends_of word) (first_task first) (admitted native first)) in
+through_by : (native : Arch) (first : Judge) (word v : ℕ) (o : Option Outcome)
+    → let p = judged_by o word (first_task first) (execve_of native) nothing_beside (admitted native first) in
     p.0 ≡ Denied v → lives p.1 ≡ false → signalled 9 p.1 ≡ p.1
-through_by native first word v true h =
-    let carried = carried_out Execve (first_task first) (execve_of native) NoBytes (admitted native first) in
+through_by native first word v None h =
     let bad : Done 0 ≡ Denied v = sym (ap (λ (row : Row). (carried_out row (first_task first) (execve_of native) NoBytes (admitted native first)).0) (first_row native)) ∙ h in
     absurd (cc)
-through_by native first word v false h = ends_by native first (ends_of word)
+through_by native first word v (Some outcome) h = ends_by native first (ends_of word)
 
 -- where it is denied and its task has ended by that, there is nothing left to end
 pub denied_ends : (native : Arch) (first : Judge) (v : ℕ) → (first_call native first).0 ≡ Denied v
     → lives (first_call native first).1 ≡ false
     → signalled 9 (first_call native first).1 ≡ (first_call native first).1
 denied_ends native first v =
-    let word = verdict_on (execve_of native) (first_task first) in
-    through_by native first word v (is_through word)
+    let call = execve_of native in
+    let word = verdict_on call (first_task first) in
+    through_by native first word v (withheld word call None (first_task first))
 
 -- a container that the kernel gets, and what its first call is answered and leaves
 pub began : (k l m : Containers) (id : List ℕ) (checked : Checked) (r : Record) (o : Outcome) → SetAt k l id (Some (begun_with checked))
-    → r ≡ execve_of (profile_of checked).native → o ≡ (present_in 1 r NoBytes (l id)).0 → SetAt l m id (present_in 1 r NoBytes (l id)).1
+    → r ≡ execve_of (profile_of checked).native → o ≡ (present_in 1 r nothing_beside (l id)).0 → SetAt l m id (present_in 1 r nothing_beside (l id)).1
     → let p = first_call (profile_of checked).native (by_program checked) in (o ≡ p.0) × SetAt k m id (Some p.1)
 began k l m id checked r o first is answer second =
     let p = first_call (profile_of checked).native (by_program checked) in
-    let both : present_in 1 r NoBytes (l id) ≡ (p.0, Some p.1) =
-    ap (λ (x : Record). present_in 1 x NoBytes (l id)) is
-    ∙ ap (present_in 1 (execve_of (profile_of checked).native) NoBytes) (own_id k l id (Some (begun_with checked)) first) in (
+    let both : present_in 1 r nothing_beside (l id) ≡ (p.0, Some p.1) =
+    ap (λ (x : Record). present_in 1 x nothing_beside (l id)) is
+    ∙ ap (present_in 1 (execve_of (profile_of checked).native) nothing_beside) (own_id k l id (Some (begun_with checked)) first) in (
       answer ∙ ap (λ (x : Outcome × Option Processes). x.0) both,
       set_twice k l m id (Some (begun_with checked)) (Some p.1) first (λ q. second q
           ∙ ap (λ (x : Outcome × Option Processes). if same_text id q then x.1 else l q) both),

@@ -5,8 +5,7 @@ use Rattle.std.proofs.lemmas.List.Elements.{All-cons, All-contains}
 use Rattle.std.specs.Cmp.Lexicographic.{nat_list_eq_equiv}
 use Rattle.call_record.specs.declared.layout.Record.{Record}
 use Rattle.cert_check.specs.declared.checked.Checked.{Checked}
-use Rattle.processes.specs.Attached.{Attached}
-use Rattle.processes.specs.Attached.Attached.{NoBytes}
+use Rattle.processes.specs.Attached.{Beside, nothing_beside}
 use Rattle.processes.specs.Begin.{execve_of}
 use Rattle.processes.specs.Ids.{is_id}
 use Rattle.processes.specs.Kernel.{is_fatal, presented, signalled}
@@ -14,7 +13,7 @@ use Rattle.processes.specs.Laws.{StandsBehind}
 use Rattle.processes.specs.Tasks.{Filter, Judge, Process, Processes, admitted, live_task, lives}
 use Rattle.processes.specs.Views.{same_text}
 use Rattle.processes.specs.declared.outcome.Outcome.{Outcome}
-use Rattle.processes.specs.declared.outcome.Outcome.TheVariants.{Done, Failed, Absent, Denied, NoTask}
+use Rattle.processes.specs.declared.outcome.Outcome.TheVariants.{Done, Failed, Absent, Denied, Answered, Declined, NoTask}
 use Rattle.processes.proofs.Changes.{either}
 use Rattle.processes.proofs.KeptLaws.{Agree, Agrees, Told, kept_by_event, kept_by_signal, told_begin, told_event, told_signal}
 use Rattle.processes.proofs.Numbers.{InOrder, signal_ordered, stays_in_order}
@@ -45,6 +44,8 @@ left_order (Denied v) ps p = signal_ordered 9 ps p
 left_order (Done n) ps p = p
 left_order (Failed e) ps p = p
 left_order Absent ps p = p
+left_order (Answered n) ps p = p
+left_order (Declined e) ps p = p
 left_order NoTask ps p = p
 
 left_told : (o : Outcome) (ps : Processes) → Told ps → Told (left_after o ps)
@@ -52,6 +53,8 @@ left_told (Denied v) ps q = told_signal 9 ps q
 left_told (Done n) ps q = q
 left_told (Failed e) ps q = q
 left_told Absent ps q = q
+left_told (Answered n) ps q = q
+left_told (Declined e) ps q = q
 left_told NoTask ps q = q
 
 -- a container that was started does not wait
@@ -64,8 +67,8 @@ steady_kept = record {
   started = λ c h.
       let native = c.processes.native in
       let p = first_call native c.first in
-      let order : InOrder p.1 = stays_in_order 1 (execve_of native) NoBytes (admitted native c.first) (omega arith, omega arith) in
-      let told : Told p.1 = told_event 1 (execve_of native) NoBytes (admitted native c.first) (told_begin native c.first) in
+      let order : InOrder p.1 = stays_in_order 1 (execve_of native) nothing_beside (admitted native c.first) (omega arith, omega arith) in
+      let told : Told p.1 = told_event 1 (execve_of native) nothing_beside (admitted native c.first) (told_begin native c.first) in
       begun c (left_after p.0 p.1) (left_order p.0 p.1 order) (left_told p.0 p.1 told);
   signal = λ c sig h. begun c (signalled sig c.processes) (signal_ordered sig c.processes h.order) (told_signal sig c.processes h.told);
   event = λ c n r a h. begun c (presented n r a c.processes).1 (stays_in_order n r a c.processes h.order) (told_event n r a c.processes h.told);
@@ -140,7 +143,7 @@ module _ (m : ℕ) (t : Process) where
   delete_later Created c e = same_later m t c e
   delete_later Running c e = same_later m t c e
 
-  call_later : (id : List ℕ) (n : ℕ) (r : Record) (a : Attached) (s : Status) (c : Container) → Steady c
+  call_later : (id : List ℕ) (n : ℕ) (r : Record) (a : Beside) (s : Status) (c : Container) → Steady c
       → goes_on_after (Call id n r a) m s c.processes ≡ Some t
       → Leaves (Later m t.filters) (call n r a s c)
   call_later id n r a Running c h e = λ u f. kept_by_event n r a c.processes m t u h.order h.told e f

@@ -20,7 +20,7 @@ pub record IsThere (id : List ℕ) (status : Status) (P : Container → Type 0) 
 abbrev pub MayGrow : Command → World → Type 0
 MayGrow (Create id given) w = (is_id id ≡ true) × (container_at id w ≡ None)
 MayGrow (Start id) w = IsThere id Created (λ c. Unit {0}) w
-MayGrow (Call id task r a) w = IsThere id Running (λ c. can_grow task r a c.processes ≡ true) w
+MayGrow (Call id task r b) w = IsThere id Running (λ c. can_grow task r b c.processes ≡ true) w
 MayGrow (Kill id sig) w = ⊥
 MayGrow (Delete id) w = ⊥
 MayGrow (State id) w = ⊥

@@ -1,19 +1,23 @@
 -- What holds of every container, whatever was commanded before.
-use Rattle.std.specs.Prelude.{◌≡◌, ◌⊎◌, ℕ, List, [], ◌∷◌, ◌++◌, Option, None, Some, if◌then◌else◌, is_some, slice_get, take, true}
+use Rattle.std.specs.Prelude.{◌≡◌, ◌⊎◌, ◌&&◌, ℕ, Bool, List, [], ◌∷◌, ◌++◌, Option, None, Some, if◌then◌else◌, is_some, not, slice_get, take}
+use Rattle.std.specs.Prelude.{true, false}
 use Rattle.std.specs.List.{All, Contains}
 use Rattle.call_record.specs.declared.layout.Record.{Record}
 use Rattle.call_record.specs.Record.{words}
-use Rattle.call_record.specs.Verdict.{IsRefusal}
+use Rattle.call_record.specs.Verdict.{IsRefusal, is_stricter, user_notif}
 use Rattle.profile.specs.Said.{said}
 use Rattle.cert_check.specs.declared.checked.Checked.{Checked}
 use Rattle.cert_check.specs.Checked.{profile_of}
-use Rattle.processes.specs.Attached.{Attached}
+use Rattle.processes.specs.Attached.{Beside}
 use Rattle.processes.specs.Begin.{execve_of}
 use Rattle.processes.specs.First.{by_profile, by_program}
 use Rattle.processes.specs.Laws.{StandsBehind, goes_on}
 use Rattle.processes.specs.Tasks.{Filter, Judge, Process, Processes, live_task}
 use Rattle.processes.specs.Views.{same_text}
-use Rattle.processes.specs.declared.outcome.Outcome.TheVariants.{Denied, NoTask}
+use Rattle.processes.specs.declared.outcome.Outcome.{Outcome}
+use Rattle.processes.specs.declared.outcome.Outcome.TheVariants.{Denied, Answered, Declined, NoTask, Done, Failed, Absent}
+use Rattle.processes.specs.declared.outcome.Response.{Response}
+use Rattle.processes.specs.declared.outcome.Response.TheVariants.{Value, Error, Continue}
 use Rattle.lifecycle.specs.declared.command.Reply.{Reply}
 use Rattle.lifecycle.specs.declared.command.Reply.TheVariants.{Presented, Refused}
 use Rattle.lifecycle.specs.declared.command.Status.{Status}
@@ -87,7 +91,7 @@ FirstFilterIsOldest =
 -- the live task of a container that goes on under number m after a command to it: only in a running one a call is carried
 -- out
 abbrev pub goes_on_after : Command → ℕ → Status → Processes → Option Process
-goes_on_after (Call id task r a) m Running ps = goes_on task r m ps
+goes_on_after (Call id task r b) m Running ps = goes_on task r b m ps
 goes_on_after o m status ps = live_task m ps.tasks
 
 -- and after a command to whichever container
@@ -113,21 +117,43 @@ LoadsTellFilters =
 
 -- ---- what a profile refuses
 
--- the call was not carried out: it was denied, or there is no such live task
+-- the call was not carried out: it was denied, a listener answered it, or there is no such live task
+abbrev pub is_withheld : Outcome → Bool
+is_withheld (Done n) = false
+is_withheld (Failed e) = false
+is_withheld Absent = false
+is_withheld (Denied v) = true
+is_withheld (Answered n) = true
+is_withheld (Declined e) = true
+is_withheld NoTask = true
+
 abbrev pub NotCarriedOut : Reply → Type 0
-NotCarriedOut reply = ((v : ℕ) × (reply ≡ Presented (Denied v))) ⊎ (reply ≡ Presented NoTask)
+NotCarriedOut reply = (o : Outcome) × (reply ≡ Presented o) × (is_withheld o ≡ true)
+
+abbrev pub is_continue : Option Response → Bool
+is_continue None = false
+is_continue (Some (Value n)) = false
+is_continue (Some (Error e)) = false
+is_continue (Some Continue) = true
+
+-- Where a listener is told of a call it may continue it, unless a filter's verdict is stricter than the one that notifies: so
+-- it may be carried out although the verdict refuses it, where such a response stands beside it.
+abbrev pub may_be_continued : ℕ → Beside → Bool
+may_be_continued v b = not (is_stricter v user_notif) && is_continue b.response
 
 -- the start was denied
 abbrev pub IsDeniedStart : Reply → Type 0
 IsDeniedStart reply = (v : ℕ) × (reply ≡ Refused (StartDenied v))
 
 -- In a run of these commands with these replies, where there were no containers before: a call that the profile refuses with
--- which its container was made is not carried out, whoever of its tasks presents it, with whatever further filters; nor does
--- a container start whose profile refuses the execve with which it begins. Both are told by the reply at the command's place.
+-- which its container was made is not carried out, whoever of its tasks presents it, with whatever further filters, and
+-- whatever a listener responds where the profile's verdict is stricter than one that notifies; nor does a container start
+-- whose profile refuses the execve with which it begins. Both are told by the reply at the command's place.
 pub record RefusesIn (commands : List Command) (replies : List Reply) : Type 0 where
-  pub call : (i : ℕ) (id : List ℕ) (given : Checked) (task : ℕ) (r : Record) (a : Attached)
-      → slice_get commands i ≡ Some (Call id task r a) → MadeBy by_profile (take i commands) id given
-      → IsRefusal (said (profile_of given) (words r)) → ReplyAt NotCarriedOut replies i
+  pub call : (i : ℕ) (id : List ℕ) (given : Checked) (task : ℕ) (r : Record) (b : Beside)
+      → slice_get commands i ≡ Some (Call id task r b) → MadeBy by_profile (take i commands) id given
+      → IsRefusal (said (profile_of given) (words r)) → may_be_continued (said (profile_of given) (words r)) b ≡ false
+      → ReplyAt NotCarriedOut replies i
   pub start : (i : ℕ) (id : List ℕ) (given : Checked) (c : Container)
       → slice_get commands i ≡ Some (Start id) → MadeBy by_profile (take i commands) id given
       → container_at id (world_after by_profile (take i commands)) ≡ Some c → c.status ≡ Created

@@ -7,8 +7,7 @@ use Rattle.cert_check.specs.declared.checked.Checked.{Checked}
 use Rattle.cert_check.specs.Checked.{profile_of}
 use Rattle.processes.specs.Ids.{is_id}
 use Rattle.processes.specs.Tasks.{Judge, Processes, admitted, lives}
-use Rattle.processes.specs.Attached.{Attached}
-use Rattle.processes.specs.Attached.Attached.{NoBytes}
+use Rattle.processes.specs.Attached.{Beside, nothing_beside}
 use Rattle.processes.specs.Kernel.{Answer, presented, signalled, is_fatal}
 use Rattle.processes.specs.Begin.{execve_of}
 use Rattle.processes.specs.declared.outcome.Outcome.{Outcome}
@@ -37,7 +36,7 @@ create F given (Some c) = (Refused IdTaken, Some c)
 
 -- the call with which a container begins: task 1 has the container's filter alone, and presents an execve
 abbrev pub first_call : Arch → Judge → Answer
-first_call native first = presented 1 (execve_of native) NoBytes (admitted native first)
+first_call native first = presented 1 (execve_of native) nothing_beside (admitted native first)
 
 -- what start is answered, by what that call was
 abbrev pub start_reply : Outcome → Reply
@@ -65,10 +64,10 @@ delete Stopped c = (Accepted, None)
 delete status c = (Refused NotStopped, Some c)
 
 -- only a running container has live tasks
-abbrev pub call : ℕ → Record → Attached → Status → Container → Result
-call task r a Running c =
-    let p = presented task r a c.processes in (Presented p.0, Some (running c p.1))
-call task r a status c = (Presented NoTask, Some c)
+abbrev pub call : ℕ → Record → Beside → Status → Container → Result
+call task r b Running c =
+    let p = presented task r b c.processes in (Presented p.0, Some (running c p.1))
+call task r b status c = (Presented NoTask, Some c)
 
 abbrev pub known : Option Container → (Container → Result) → Result
 known None next = (Refused NoContainer, None)
@@ -81,7 +80,7 @@ acted F (Start id) o = known o (λ c. start c.status c)
 acted F (Kill id sig) o = known o (λ c. kill sig c.status c)
 acted F (Delete id) o = known o (λ c. delete c.status c)
 acted F (State id) o = known o (λ c. (IsIn c.status, Some c))
-acted F (Call id task r a) o = known o (λ c. call task r a c.status c)
+acted F (Call id task r b) o = known o (λ c. call task r b c.status c)
 
 -- one command, in a world
 abbrev pub step : First → Command → World → Reply × World

@@ -2,7 +2,7 @@
 use crate::fault::Refusal;
 use call_record::Record;
 use cert_check::Checked;
-use processes::Outcome;
+use processes::{Outcome, Response};
 
 /// A command of the lifecycle, or a call that a task presents: its filter is kept, and its texts are not.
 #[derive(Clone, Copy)]
@@ -17,8 +17,9 @@ pub enum Command<'a, 'c> {
     Delete(&'c str),
     /// Tell its status.
     State(&'c str),
-    /// A task of this number presents a record, perhaps with the bytes of a program attached.
-    Call(&'c str, u64, Record, Option<&'c [u8]>),
+    /// A task of this number presents a record, perhaps with the bytes of a program attached. A listener that is told of
+    /// it may respond.
+    Call(&'c str, u64, Record, Option<&'c [u8]>, Option<Response>),
 }
 
 /// How far a container has come.

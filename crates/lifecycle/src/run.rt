@@ -29,7 +29,9 @@ impl<'a, K: Kernel> Runtime<'a, K> {
             Command::Kill(id, sig) => Ok(self.kill(id, sig)),
             Command::Delete(id) => Ok(self.delete(id)),
             Command::State(id) => Ok(self.state(id)),
-            Command::Call(id, task, rec, attached) => self.call(id, task, &rec, attached),
+            Command::Call(id, task, rec, attached, response) => {
+                self.call(id, task, &rec, attached, response)
+            }
         }
     }
 
@@ -38,7 +40,7 @@ impl<'a, K: Kernel> Runtime<'a, K> {
     ///
     /// The replies, and the world after them, are those of a run in which a container's profile decides what its first
     /// filter answers; with the program of the filter in the profile's place it is the same run. So a call that a profile
-    /// refuses is not carried out, and a call that no filter refuses is.
+    /// refuses is not carried out, unless a listener may continue it, and a call that no filter refuses is.
     pub fn run(&mut self, commands: &[Command<'a, '_>]) -> (Vec<Reply>, Result<(), AllocError>)
         ensures headline { IsRun by_profile (commands_of (take (length result.0.items) commands.now)) (world_of self.old) result.0.items (world_of self.new) }
         ensures so_far { IsRun by_program (commands_of (take (length result.0.items) commands.now)) (world_of self.old) result.0.items (world_of self.new) }

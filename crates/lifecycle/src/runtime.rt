@@ -14,7 +14,7 @@ use crate::register::Register;
 use crate::start::begin;
 use call_record::Record;
 use cert_check::Checked;
-use processes::{Id, Kernel, LAST_SIGNAL, Outcome, is_fatal};
+use processes::{Id, Kernel, LAST_SIGNAL, Outcome, Response, is_fatal};
 use std::alloc::{AllocError, Global};
 
 /// Containers over a kernel.
@@ -47,7 +47,7 @@ struct Found<'a> {
 impl<'a, K: Kernel> Runtime<'a, K> {
     ghost use Rattle.std.specs.Prelude.{Some, IfSome, IfNone, IfOk, OnErr, option_copied, slice_get};
     ghost use Rattle.std.specs.Option.{option_map};
-    ghost use Rattle.processes.specs.Attached.{attached_of};
+    ghost use Rattle.processes.specs.Attached.{beside_of};
     ghost use Rattle.processes.specs.First.{by_program};
     ghost use Rattle.lifecycle.specs.Commands.Command.{Create, Start, Kill, Delete, State, Call};
     ghost use Rattle.lifecycle.specs.Growth.{MayGrow};
@@ -161,18 +161,20 @@ impl<'a, K: Kernel> Runtime<'a, K> {
         }
     }
 
-    /// A task of the container presents a record, perhaps with a program attached.
+    /// A task of the container presents a record, perhaps with a program attached. A listener that is told of it responds
+    /// this.
     pub fn call(
         &mut self,
         id: &str,
         task: u64,
         rec: &Record,
         attached: Option<&[u8]>,
+        response: Option<Response>,
     ) -> Result<Reply, AllocError>
-        ensures step { let given = attached_of (option_map (λ a. a.now) attached.entry) in
+        ensures step { let given = beside_of (option_map (λ a. a.now) attached.entry) response in
             IfOk result (λ r. (r, world_of self.new) ≡ step by_program (Call id.now task rec.now given) (world_of self.old)) }
         ensures err { OnErr result (world_of self.new ≡ world_of self.old) }
-        ensures growth { let given = attached_of (option_map (λ a. a.now) attached.entry) in
+        ensures growth { let given = beside_of (option_map (λ a. a.now) attached.entry) response in
             OnErr result (MayGrow (Call id.now task rec.now given) (world_of self.old)) }
     {
         let Some(Kept { name, entry }) = self.kept(id) else {
@@ -182,7 +184,7 @@ impl<'a, K: Kernel> Runtime<'a, K> {
             Phase::Made => Ok(Reply::Presented(Outcome::NoTask)),
             Phase::Started => {
                 // Where no task of group 1 lives, none does: the kernel finds no task then.
-                let outcome = self.kernel.present(&name, task, rec, attached)?;
+                let outcome = self.kernel.present(&name, task, rec, attached, response)?;
                 Ok(Reply::Presented(outcome))
             }
             Phase::Ended => Ok(Reply::Presented(Outcome::NoTask)),

@@ -35,7 +35,7 @@ pub(crate) fn begin<K: Kernel>(
 {
     kernel.admit(id, checked)?;
     let first = execve_record(checked.profile().native());
-    match kernel.present(id, 1, &first, None) {
+    match kernel.present(id, 1, &first, None, None) {
         Ok(outcome) => Ok(settle(kernel, id, outcome)),
         Err(error) => {
             kernel.expel(id);
@@ -60,6 +60,8 @@ fn settle<K: Kernel>(kernel: &mut K, id: &Id, outcome: Outcome) -> Reply
         Outcome::Done(_) => Reply::Accepted,
         Outcome::Failed(_) => Reply::Accepted,
         Outcome::Absent => Reply::Accepted,
+        Outcome::Answered(_) => Reply::Accepted,
+        Outcome::Declined(_) => Reply::Accepted,
         Outcome::NoTask => Reply::Accepted,
     }
 }

@@ -1,11 +1,11 @@
 -- Each group is led by the task of its number, and no task outlives group 1.
-use Rattle.std.proofs.Common.{◌≡◌, ℕ, ◌+◌, ◌==◌, ◌&&◌, ◌||◌, ◌<◌, Bool, true, false, not, List, [], ◌∷◌, ◌++◌, Some, if◌then◌else◌}
+use Rattle.std.proofs.Common.{◌≡◌, ℕ, ◌+◌, ◌==◌, ◌&&◌, ◌||◌, ◌<◌, Bool, true, false, not, List, [], ◌∷◌, ◌++◌, Option, Some, if◌then◌else◌}
 use Rattle.std.proofs.Common.{refl, sym, ◌∙◌, map, arith, ap}
 use Rattle.std.specs.Prelude.{IsTrue, filter, find}
 use Rattle.std.specs.List.{list_any}
 use Rattle.std.proofs.lemmas.Bool.{and_parts, eqb-true, eq-eqb, ne_eqb}
 use Rattle.call_record.specs.declared.layout.Record.{Record}
-use Rattle.processes.specs.Attached.{Attached}
+use Rattle.processes.specs.Attached.{Beside}
 use Rattle.processes.specs.declared.outcome.End.{End}
 use Rattle.processes.specs.declared.outcome.End.TheVariants as end
 use Rattle.processes.specs.Tasks.{Filter, Process, Processes, ascends, end_by, end_where, is_in_group, is_live, is_task}
@@ -149,10 +149,10 @@ Led ps = GroupsAreLed ps.tasks
 ends_led : SurvivesStops Led
 ends_led = stops_too Led (λ test e ps p. led_where test e ps.tasks p)
 
-loaded_alike : (for_all : Bool) (t : Process) (filters : List Filter)
-    → Alike (λ u. if takes for_all t u then record u { filters = filters } else u)
-loaded_alike for_all t filters u =
-    either (λ (v : Process). (v.number ≡ u.number) × (v.group ≡ u.group)) (takes for_all t u) (record u { filters = filters }) u (
+loaded_alike : (for_all : Bool) (t : Process) (filters : List Filter) (listener : Option ℕ)
+    → Alike (λ u. if takes for_all t u then record u { filters = filters; listener = listener } else u)
+loaded_alike for_all t filters listener u =
+    either (λ (v : Process). (v.number ≡ u.number) × (v.group ≡ u.group)) (takes for_all t u) (record u { filters = filters; listener = listener }) u (
       refl,
       refl,
     ) (refl, refl)
@@ -233,14 +233,14 @@ module _ (n : ℕ) (ps : Processes) (t : Process) (p : InOrder ps) (led : Led ps
   known_left : Each (Known t) (end_where (is_sibling t) (end.Signal 9) ps.tasks)
   known_left = end_each (Known t) (λ last u k. k) (is_sibling t) (end.Signal 9) ps.tasks known
 
-  pub survive_led : (r : Record) → Survives Led t r ps
-  survive_led r = record {
+  pub survive_led : (r : Record) (b : Beside) → Survives Led t r b ps
+  survive_led r b = record {
     same = led;
     ends = ends_led;
     fork = led_push ps.tasks (forked t (ps.made + 1)) (any_last (leads (ps.made + 1)) ps.tasks (forked t (ps.made + 1)) (leads_itself (forked t (ps.made + 1)) refl)) led;
     thread = led_push ps.tasks (cloned t (ps.made + 1)) (any_push (leads t.group) ps.tasks (cloned t (ps.made + 1)) own_led) led;
     image = λ through row. image_led t (end_where (is_sibling t) (end.Signal 9) ps.tasks) known_left (led_where (is_sibling t) (end.Signal 9) ps.tasks led);
-    load = λ for_all q none. led_map _ (loaded_alike for_all t _) ps.tasks led;
+    load = λ how q none. led_map _ (loaded_alike how.for_all t _ _) ps.tasks led;
   }
 
   caller_lives : is_live t ≡ true
@@ -289,16 +289,16 @@ module _ (n : ℕ) (ps : Processes) (t : Process) (p : InOrder ps) (led : Led ps
   still_runs : (qs : Processes) → lives qs ≡ true → NoneOutlives qs
   still_runs qs h = λ stopped. let bad : true ≡ false = sym h ∙ stopped in absurd (cc)
 
-  pub survive_none : (r : Record) → NoneOutlives ps → Survives NoneOutlives t r ps
-  survive_none r none = record {
+  pub survive_none : (r : Record) (b : Beside) → NoneOutlives ps → Survives NoneOutlives t r b ps
+  survive_none r b none = record {
     same = none;
     ends = λ test last qs h. stops_all test last qs;
     fork = still_runs (with_next (forked t) ps).1 (any_push (λ u. is_in_group 1 u && is_live u) ps.tasks (forked t (ps.made + 1)) (runs none));
     thread = still_runs (with_next (cloned t) ps).1 (any_push (λ u. is_in_group 1 u && is_live u) ps.tasks (cloned t (ps.made + 1)) (runs none));
     image = λ through row. still_runs (with_tasks ps (executed t ps.tasks)) (image_runs (t.group == 1) refl);
-    load = λ for_all q free. still_runs (loaded for_all q t ps) (any_map (λ u. Unit {0}) (λ u. is_in_group 1 u && is_live u) (λ u. is_in_group 1 u && is_live u) _
+    load = λ how q free. still_runs (loaded how q t ps) (any_map (λ u. Unit {0}) (λ u. is_in_group 1 u && is_live u) (λ u. is_in_group 1 u && is_live u) _
         (λ u x is. either (λ (v : Process). (is_in_group 1 v && is_live v)
-        ≡ true) (takes for_all t u) _ u is is) ps.tasks (each_any (λ u. Unit {0}) (λ u. tt) ps.tasks) (runs none));
+        ≡ true) (takes how.for_all t u) _ u is is) ps.tasks (each_any (λ u. Unit {0}) (λ u. tt) ps.tasks) (runs none));
   }
     where
       image_runs : (b : Bool) → (t.group == 1) ≡ b → lives (with_tasks ps (executed t ps.tasks)) ≡ true
@@ -306,8 +306,8 @@ module _ (n : ℕ) (ps : Processes) (t : Process) (p : InOrder ps) (led : Led ps
       image_runs false h = others_go_on h (runs none)
 
 -- Whatever a task presents, groups stay led,
-led_event : (n : ℕ) (r : Record) (a : Attached) (ps : Processes) → IsTrue (ascends 0 ps.tasks ps.made) → Led ps → Led (presented n r a ps).1
-led_event n r a ps h led = event_keeps Led n r a ps led (λ t e. survive_led n ps t (to_order 0 ps.tasks ps.made h) led e r)
+led_event : (n : ℕ) (r : Record) (b : Beside) (ps : Processes) → IsTrue (ascends 0 ps.tasks ps.made) → Led ps → Led (presented n r b ps).1
+led_event n r b ps h led = event_keeps Led n r b ps led (λ t e. survive_led n ps t (to_order 0 ps.tasks ps.made h) led e r b)
 
 pub groups_stay_led : GroupsStayLed
 groups_stay_led = record {
@@ -317,9 +317,9 @@ groups_stay_led = record {
 }
 
 -- and none outlives group 1
-none_event : (n : ℕ) (r : Record) (a : Attached) (ps : Processes) → IsTrue (ascends 0 ps.tasks ps.made)
-    → Led ps → NoneOutlives ps → NoneOutlives (presented n r a ps).1
-none_event n r a ps h led none = event_keeps NoneOutlives n r a ps none (λ t e. survive_none n ps t (to_order 0 ps.tasks ps.made h) led e r none)
+none_event : (n : ℕ) (r : Record) (b : Beside) (ps : Processes) → IsTrue (ascends 0 ps.tasks ps.made)
+    → Led ps → NoneOutlives ps → NoneOutlives (presented n r b ps).1
+none_event n r b ps h led none = event_keeps NoneOutlives n r b ps none (λ t e. survive_none n ps t (to_order 0 ps.tasks ps.made h) led e r b none)
 
 pub none_outlives_group_1 : NoneOutlivesGroup1
 none_outlives_group_1 = record {

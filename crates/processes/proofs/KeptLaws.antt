@@ -2,18 +2,17 @@
 use Rattle.std.proofs.Common.{◌≡◌, ℕ, zero, suc, ◌+◌, ◌-◌, ◌==◌, ◌&&◌, ◌||◌, ◌<◌, ◌≤◌, Bool, true, false, not, List, [], ◌∷◌, ◌++◌}
 use Rattle.std.proofs.Common.{Option, Some, None, if◌then◌else◌, refl, map, length, take, drop, sym, ap, subst, ◌∙◌, arith}
 use Rattle.std.proofs.Common.{take-append-drop}
-use Rattle.std.specs.Prelude.{filter, find}
+use Rattle.std.specs.Prelude.{filter, find, is_none}
 use Rattle.std.specs.Cmp.Lexicographic.{bytes_decides}
 use Rattle.std.proofs.lemmas.Bool.{and_parts, eqb-true}
 use Rattle.std.proofs.lemmas.Bool.Decides.{Decides-eqb}
 use Rattle.call_record.specs.declared.layout.Record.{Record}
-use Rattle.call_record.specs.Verdict.{is_through}
-use Rattle.call_record.specs.Ends.{ends_of}
 use Rattle.bpf_insn.specs.declared.instruction.Insn.{Insn}
 use Rattle.call_tables.specs.declared.arch.Arch.{Arch}
 use Rattle.processes.specs.declared.outcome.End.{End}
 use Rattle.processes.specs.declared.outcome.End.TheVariants as end
-use Rattle.processes.specs.declared.outcome.Outcome.TheVariants.{Denied}
+use Rattle.processes.specs.declared.outcome.Outcome.{Outcome}
+use Rattle.processes.specs.declared.row.Loading.{Loading}
 use Rattle.processes.specs.declared.row.Row.{Row}
 use Rattle.processes.specs.declared.row.Row.TheVariants.{NewTask, NewThread, Execve, Exit, ExitGroup, Kill, GetPid, GetTid}
 use Rattle.processes.specs.declared.row.Row.TheVariants.{GetParent, Load, NoLoad, Plain, Missing}
@@ -21,10 +20,10 @@ use Rattle.processes.specs.Laws.{Each, StandsBehind, executes, goes_on, goes_on_
 use Rattle.processes.specs.Tasks.{Filter, Judge, Process, Processes, admitted, end_where, is_in_group, is_live, is_task, live_task}
 use Rattle.processes.specs.Tasks.{program_judge, with_tasks}
 use Rattle.processes.specs.Calls.{row_of}
-use Rattle.processes.specs.Kernel.{carried_out, cloned, conflicts, ended_by_verdict, executed, first_conflict, forked}
-use Rattle.processes.specs.Kernel.{is_oldest_part, is_sibling, judged, loaded, loads_of, presented, presented_by, renewed}
-use Rattle.processes.specs.Kernel.{signalled, takes, verdict_on}
-use Rattle.processes.specs.Attached.{Attached}
+use Rattle.processes.specs.Kernel.{carried_out, cloned, conflicts, executed, first_conflict, forked, is_oldest_part, is_sibling}
+use Rattle.processes.specs.Kernel.{judged, judged_by, listener_after, loaded, loads_of, passes, presented, presented_by, renewed}
+use Rattle.processes.specs.Kernel.{signalled, takes, verdict_on, withheld}
+use Rattle.processes.specs.Attached.{Beside}
 use Rattle.processes.proofs.Changes.{Survives, SurvivesStops, either, event_keeps, judged_stays, signal_keeps, stops_too}
 use Rattle.processes.proofs.Laws.{behind_one, each_map, each_push, end_each, found, image_each}
 use Rattle.processes.proofs.Numbers.{Ascends, InOrder, above}
@@ -154,28 +153,32 @@ told_ends = stops_too Told (λ test e ps told. record {
   agree = agrees_ends told.judges ps.loads test e ps.tasks told.agree;
 })
 
-told_loaded : (for_all : Bool) (p : List Insn) (t : Process) (ps : Processes) (told : Told ps)
-    → Agrees told.judges ps.loads t → Told (loaded for_all p t ps)
-told_loaded for_all p t ps told own =
+told_loaded : (how : Loading) (p : List Insn) (t : Process) (ps : Processes) (told : Told ps)
+    → Agrees told.judges ps.loads t → Told (loaded how p t ps)
+told_loaded how p t ps told own =
     let judges = more told.judges ps.loads (program_judge p) in
     let first : Filter = record { load = ps.loads + 1; judge = program_judge p } in
+    let listener = listener_after how (ps.loads + 1) t.listener in
     let all : Agree judges (ps.loads + 1) (first ∷ t.filters) =
     (new_is told.judges ps.loads (program_judge p), omega arith, grows told.judges ps.loads (program_judge p) t.filters own) in
     record {
       judges = judges;
-      agree = each_map (Agrees told.judges ps.loads) (Agrees judges (ps.loads + 1)) (λ u. if takes for_all t u then record u { filters = first ∷ t.filters } else u)
-          (λ u a. either (Agrees judges (ps.loads + 1)) (takes for_all t u) (record u {
-            filters = first
-                ∷ t.filters;
+      agree = each_map (Agrees told.judges ps.loads) (Agrees judges (ps.loads + 1)) (λ u. if takes how.for_all t u then record u {
+            filters = first ∷ t.filters;
+            listener = listener;
+          } else u)
+          (λ u a. either (Agrees judges (ps.loads + 1)) (takes how.for_all t u) (record u {
+            filters = first ∷ t.filters;
+            listener = listener;
           }) u all (grows told.judges ps.loads (program_judge p) u.filters a))
           ps.tasks told.agree;
     }
 
 -- Load numbers stay so, whatever a task presents,
-pub told_event : (n : ℕ) (r : Record) (a : Attached) (ps : Processes) → Told ps → Told (presented n r a ps).1
-told_event n r a ps told = event_keeps Told n r a ps told by
+pub told_event : (n : ℕ) (r : Record) (b : Beside) (ps : Processes) → Told ps → Told (presented n r b ps).1
+told_event n r b ps told = event_keeps Told n r b ps told by
   where
-    by : (t : Process) → live_task n ps.tasks ≡ Some t → Survives Told t r ps
+    by : (t : Process) → live_task n ps.tasks ≡ Some t → Survives Told t r b ps
     by t e =
         let P = Agrees told.judges ps.loads in
         let own : P t = found P (test_of n) ps.tasks told.agree t e in record {
@@ -184,7 +187,7 @@ told_event n r a ps told = event_keeps Told n r a ps told by
           fork = record { judges = told.judges; agree = each_push P ps.tasks (forked t (ps.made + 1)) told.agree own };
           thread = record { judges = told.judges; agree = each_push P ps.tasks (cloned t (ps.made + 1)) told.agree own };
           image = λ through row. record { judges = told.judges; agree = image_each P (λ last u q. q) t own ps.tasks told.agree };
-          load = λ for_all p none. told_loaded for_all p t ps told own;
+          load = λ how p none. told_loaded how p t ps told own;
         }
 
 -- and whatever signal comes from outside,
@@ -277,14 +280,14 @@ taker judges top m t c u true own k h =
     let parts = and_parts (is_in_group c.group u) (is_live u) h in
     sibling_by judges top c u k.1.0 k.1.1.0 own (k.1.1.1 refl) parts.0 parts.1 (is_task c.number u) refl
 
-given_by : (judges : ℕ → Judge) (top m : ℕ) (t c u : Process) (for_all : Bool) (f : Filter)
+given_by : (judges : ℕ → Judge) (top m : ℕ) (t c u : Process) (for_all : Bool) (f : Filter) (listener : Option ℕ)
     → Agrees judges top c → Known judges top m t c for_all u
-    → (b : Bool) → takes for_all c u ≡ b → Keeps m t.filters (if b then record u { filters = f ∷ c.filters } else u)
-given_by judges top m t c u for_all f own k true h = λ is live.
+    → (b : Bool) → takes for_all c u ≡ b → Keeps m t.filters (if b then record u { filters = f ∷ c.filters; listener = listener } else u)
+given_by judges top m t c u for_all f listener own k true h = λ is live.
     let same : u ≡ t = k.0 is live in
     let behind : StandsBehind t.filters c.filters = subst (λ (x : Process). StandsBehind x.filters c.filters) same (taker judges top m t c u for_all own k h) in
     behind_one t.filters c.filters f behind
-given_by judges top m t c u for_all f own k false h = only_keeps m t u k.0
+given_by judges top m t c u for_all f listener own k false h = only_keeps m t u k.0
 
 free_by : (for_all : Bool) (c : Process) (ps : Processes) → first_conflict for_all c ps ≡ None
     → Each (λ u. for_all ≡ true → conflicts c u ≡ false) ps.tasks
@@ -304,9 +307,9 @@ module _ (ps : Processes) (p : InOrder ps) (told : Told ps) (m : ℕ) (t : Proce
       let number : t.number ≡ m = is_number m t (meets (test_of m) ps.tasks t is) in
       let le : t.number ≤ ps.made = found (λ u. u.number ≤ ps.made) (test_of m) ps.tasks (within 0 ps.made ps.tasks p) t is in omega arith
 
-  survives : (n : ℕ) (r : Record) (c : Process) → live_task n ps.tasks ≡ Some c
-      → (executes r ps c && (c.group == m)) ≡ false → Survives (AllKeep m t.filters) c r ps
-  survives n r c e other = record {
+  survives : (n : ℕ) (r : Record) (b : Beside) (c : Process) → live_task n ps.tasks ≡ Some c
+      → (executes r b ps c && (c.group == m)) ≡ false → Survives (AllKeep m t.filters) c r b ps
+  survives n r b c e other = record {
     same = as_before;
     ends = keep_ends m t.filters;
     fork = each_push (Keeps m t.filters) ps.tasks (forked c (ps.made + 1)) as_before (λ number live. absurd (no_new (ps.made + 1) refl number));
@@ -314,15 +317,19 @@ module _ (ps : Processes) (p : InOrder ps) (told : Told ps) (m : ℕ) (t : Proce
     image = λ through row. image_each (Keeps m t.filters) (over m t.filters) c
         (λ number live. let bad : true ≡ false = sym (rw (through, row, same_number c.group m number) refl) ∙ other in
         absurd (cc)) ps.tasks as_before;
-    load = λ for_all q none.
+    load = λ how q none.
         let P = Agrees told.judges ps.loads in
         let own : P c = found P (test_of n) ps.tasks told.agree c e in
         let number : c.number ≡ n = is_number n c (meets (test_of n) ps.tasks c e) in
         let caller : Each (Only c.number c) ps.tasks = only_one c.number 0 ps.made c ps.tasks p (ap (λ k. live_task k ps.tasks) number ∙ e) in
-        let free : Each (λ u. for_all ≡ true → conflicts c u ≡ false) ps.tasks = free_by for_all c ps none in
+        let free : Each (λ u. how.for_all ≡ true → conflicts c u ≡ false) ps.tasks = free_by how.for_all c ps none in
         let first : Filter = record { load = ps.loads + 1; judge = program_judge q } in
-        each_map (Known told.judges ps.loads m t c for_all) (Keeps m t.filters) (λ u. if takes for_all c u then record u { filters = first ∷ c.filters } else u)
-        (λ u k. given_by told.judges ps.loads m t c u for_all first own k (takes for_all c u) refl) ps.tasks
+        let listener = listener_after how (ps.loads + 1) c.listener in
+        each_map (Known told.judges ps.loads m t c how.for_all) (Keeps m t.filters) (λ u. if takes how.for_all c u then record u {
+          filters = first ∷ c.filters;
+          listener = listener;
+        } else u)
+        (λ u k. given_by told.judges ps.loads m t c u how.for_all first listener own k (takes how.for_all c u) refl) ps.tasks
         (each_both (Only m t) _ ps.tasks only (each_both (Only c.number c) _ ps.tasks caller (each_both P _ ps.tasks told.agree free)));
   }
 
@@ -337,7 +344,7 @@ row_by Kill h = absurd (cc)
 row_by GetPid h = absurd (cc)
 row_by GetTid h = absurd (cc)
 row_by GetParent h = absurd (cc)
-row_by (Load for_all) h = absurd (cc)
+row_by (Load how) h = absurd (cc)
 row_by NoLoad h = absurd (cc)
 row_by Plain h = absurd (cc)
 row_by Missing h = absurd (cc)
@@ -352,31 +359,36 @@ executed_keeps m c ts e =
     each_map (λ u. Unit {0}) (Keeps m c.filters) (λ u. if is_task c.group u then renewed c else u) (λ u x. renewed_by m c u e (is_task c.group u) refl) kept
     (each_any (λ u. Unit {0}) (λ u. tt) kept)
 
-carried : (r : Record) (a : Attached) (ps : Processes) (c : Process) → executes r ps c ≡ true
-    → (judged (verdict_on r c) c r a ps).1 ≡ with_tasks ps (executed c ps.tasks)
-carried r a ps c h =
-    let parts = and_parts (is_through (verdict_on r c)) (is_execve (row_of ps.native r)) h in
-    let v = verdict_on r c in
-    ap (λ (b : Bool). (if b then carried_out (row_of ps.native r) c r a ps else (Denied v, ended_by_verdict (ends_of v) c ps)).1) parts.0
-    ∙ ap (λ (row : Row). (carried_out row c r a ps).1) (row_by (row_of ps.native r) parts.1)
+-- what is withheld, where a call passes
+none_withheld : (o : Option Outcome) → is_none o ≡ true → o ≡ None
+none_withheld None h = refl
+none_withheld (Some outcome) h = absurd (cc)
 
-after_by : (n : ℕ) (r : Record) (a : Attached) (ps : Processes) (m : ℕ) (t : Process) → InOrder ps
+carried : (r : Record) (b : Beside) (ps : Processes) (c : Process) → executes r b ps c ≡ true
+    → (judged (verdict_on r c) c r b ps).1 ≡ with_tasks ps (executed c ps.tasks)
+carried r b ps c h =
+    let v = verdict_on r c in
+    let parts = and_parts (passes v r b c) (is_execve (row_of ps.native r)) h in
+    ap (λ (o : Option Outcome). (judged_by o v c r b ps).1) (none_withheld (withheld v r b.response c) parts.0)
+    ∙ ap (λ (row : Row). (carried_out row c r b.attached ps).1) (row_by (row_of ps.native r) parts.1)
+
+after_by : (n : ℕ) (r : Record) (b : Beside) (ps : Processes) (m : ℕ) (t : Process) → InOrder ps
     → Told ps → (o : Option Process) → live_task n ps.tasks ≡ o
-    → goes_on_by o r m ps ≡ Some t → AllKeep m t.filters (presented_by o r a ps).1
-after_by n r a ps m t p told None e is = as_before ps p told m t is
-after_by n r a ps m t p told (Some c) e is = by (executes r ps c && (c.group == m)) refl
+    → goes_on_by o r b m ps ≡ Some t → AllKeep m t.filters (presented_by o r b ps).1
+after_by n r b ps m t p told None e is = as_before ps p told m t is
+after_by n r b ps m t p told (Some c) e is = by (executes r b ps c && (c.group == m)) refl
   where
-    by : (b : Bool) → (executes r ps c && (c.group == m)) ≡ b → AllKeep m t.filters (presented_by (Some c) r a ps).1
+    by : (x : Bool) → (executes r b ps c && (c.group == m)) ≡ x → AllKeep m t.filters (presented_by (Some c) r b ps).1
     by true h =
-        let parts = and_parts (executes r ps c) (c.group == m) h in
+        let parts = and_parts (executes r b ps c) (c.group == m) h in
         let caller : Some c ≡ Some t = rw h at is in
         let same : c ≡ t = cc in
         let kept : AllKeep m c.filters (with_tasks ps (executed c ps.tasks)) = executed_keeps m c ps.tasks (eqb-true c.group m parts.1) in
-        let there : AllKeep m c.filters (judged (verdict_on r c) c r a ps).1 = subst (AllKeep m c.filters) (sym (carried r a ps c parts.0)) kept in
-        subst (λ (x : Process). AllKeep m x.filters (judged (verdict_on r c) c r a ps).1) same there
+        let there : AllKeep m c.filters (judged (verdict_on r c) c r b ps).1 = subst (AllKeep m c.filters) (sym (carried r b ps c parts.0)) kept in
+        subst (λ (x : Process). AllKeep m x.filters (judged (verdict_on r c) c r b ps).1) same there
     by false h =
         let number : live_task m ps.tasks ≡ Some t = rw h at is in
-        judged_stays (AllKeep m t.filters) c r ps (survives ps p told m t number n r c e h) a
+        judged_stays (AllKeep m t.filters) c r b ps (survives ps p told m t number n r b c e h)
 
 kept_by : (m : ℕ) (old : List Filter) (qs : Processes) (u : Process) → AllKeep m old qs
     → live_task m qs.tasks ≡ Some u → StandsBehind old u.filters
@@ -385,11 +397,11 @@ kept_by m old qs u all e =
     found (Keeps m old) (test_of m) qs.tasks all u e (is_number m u test) (lives_too m u test)
 
 -- Who goes on under a number after an event has its old filters there, behind newer ones or none.
-pub kept_by_event : (n : ℕ) (r : Record) (a : Attached) (ps : Processes) (m : ℕ) (t u : Process)
-    → InOrder ps → Told ps → goes_on n r m ps ≡ Some t
-    → live_task m (presented n r a ps).1.tasks ≡ Some u → StandsBehind t.filters u.filters
-kept_by_event n r a ps m t u p told is after =
-    kept_by m t.filters (presented n r a ps).1 u (after_by n r a ps m t p told (live_task n ps.tasks) refl is) after
+pub kept_by_event : (n : ℕ) (r : Record) (b : Beside) (ps : Processes) (m : ℕ) (t u : Process)
+    → InOrder ps → Told ps → goes_on n r b m ps ≡ Some t
+    → live_task m (presented n r b ps).1.tasks ≡ Some u → StandsBehind t.filters u.filters
+kept_by_event n r b ps m t u p told is after =
+    kept_by m t.filters (presented n r b ps).1 u (after_by n r b ps m t p told (live_task n ps.tasks) refl is) after
 
 -- and so has each live task after a signal from outside
 pub kept_by_signal : (sig : ℕ) (ps : Processes) (m : ℕ) (t u : Process) → InOrder ps → Told ps → live_task m ps.tasks ≡ Some t

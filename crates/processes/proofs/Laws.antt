@@ -7,11 +7,12 @@ use Rattle.bpf_insn.specs.declared.instruction.Insn.{Insn}
 use Rattle.call_tables.specs.declared.arch.Arch.{Arch}
 use Rattle.processes.specs.declared.outcome.End.{End}
 use Rattle.processes.specs.declared.outcome.End.TheVariants as end
+use Rattle.processes.specs.declared.row.Loading.{Loading}
 use Rattle.processes.specs.Laws.{Each, FirstFilterStays, HasEnded, KeepsBehind, StandsBehind}
 use Rattle.processes.specs.Tasks.{Judge, Filter, admitted, Process, Processes, is_live, is_task, live_task, lives, end_by}
 use Rattle.processes.specs.Tasks.{end_where, with_tasks, ended}
 use Rattle.processes.specs.Kernel.{forked, cloned, is_sibling, renewed, executed, loaded, presented, signalled, takes}
-use Rattle.processes.specs.Attached.{Attached}
+use Rattle.processes.specs.Attached.{Beside}
 use Rattle.processes.proofs.Changes.{Survives, SurvivesStops, either, event_keeps, signal_keeps, stops_too}
 
 pub each_map : (P Q : Process → Type 0) (f : Process → Process) → ((t : Process) → P t → Q (f t))
@@ -82,11 +83,11 @@ where_keeps : (old : List Filter) (test : Process → Bool) (e : End) (ts : List
     → Each (KeepsBehind old) ts → Each (KeepsBehind old) (end_where test e ts)
 where_keeps old test e ts s = end_each (KeepsBehind old) (λ last u p. p) test e ts s
 
-loaded_keeps : (old : List Filter) (for_all : Bool) (p : List Insn) (t : Process) (ps : Processes) → KeepsBehind old t
-    → Each (KeepsBehind old) ps.tasks → Each (KeepsBehind old) (loaded for_all p t ps).tasks
-loaded_keeps old for_all p t ps k s =
+loaded_keeps : (old : List Filter) (how : Loading) (p : List Insn) (t : Process) (ps : Processes) → KeepsBehind old t
+    → Each (KeepsBehind old) ps.tasks → Each (KeepsBehind old) (loaded how p t ps).tasks
+loaded_keeps old how p t ps k s =
     each_map (KeepsBehind old) (KeepsBehind old) _
-    (λ u q. either (KeepsBehind old) (takes for_all t u) _ u (behind_one old t.filters _ k) q) ps.tasks s
+    (λ u q. either (KeepsBehind old) (takes how.for_all t u) _ u (behind_one old t.filters _ k) q) ps.tasks s
 
 found_by : (P : Process → Type 0) (test : Process → Bool) (t : Process) (ts : List Process) (b : Bool) → test t ≡ b → P t → (u : Process)
     → (find test ts ≡ Some u → P u) → find test (t ∷ ts) ≡ Some u → P u
@@ -102,11 +103,11 @@ ends_keep : (old : List Filter) → SurvivesStops (λ qs. Each (KeepsBehind old)
 ends_keep old = stops_too (λ qs. Each (KeepsBehind old) qs.tasks) (λ test last qs q. where_keeps old test last qs.tasks q)
 
 -- What is behind the filters of every task stays behind them, whatever a task presents.
-pub keeps_behind : (old : List Filter) (n : ℕ) (r : Record) (a : Attached) (ps : Processes) → Each (KeepsBehind old) ps.tasks
-    → Each (KeepsBehind old) (presented n r a ps).1.tasks
-keeps_behind old n r a ps s = event_keeps (λ qs. Each (KeepsBehind old) qs.tasks) n r a ps s by
+pub keeps_behind : (old : List Filter) (n : ℕ) (r : Record) (b : Beside) (ps : Processes) → Each (KeepsBehind old) ps.tasks
+    → Each (KeepsBehind old) (presented n r b ps).1.tasks
+keeps_behind old n r b ps s = event_keeps (λ qs. Each (KeepsBehind old) qs.tasks) n r b ps s by
   where
-    by : (t : Process) → live_task n ps.tasks ≡ Some t → Survives (λ qs. Each (KeepsBehind old) qs.tasks) t r ps
+    by : (t : Process) → live_task n ps.tasks ≡ Some t → Survives (λ qs. Each (KeepsBehind old) qs.tasks) t r b ps
     by t e =
         let k = found (KeepsBehind old) (λ u. is_task n u && is_live u) ps.tasks s t e in record {
           same = s;
@@ -114,7 +115,7 @@ keeps_behind old n r a ps s = event_keeps (λ qs. Each (KeepsBehind old) qs.task
           fork = each_push (KeepsBehind old) ps.tasks (forked t (ps.made + 1)) s k;
           thread = each_push (KeepsBehind old) ps.tasks (cloned t (ps.made + 1)) s k;
           image = λ through row. image_each (KeepsBehind old) (λ last u p. p) t k ps.tasks s;
-          load = λ for_all p none. loaded_keeps old for_all p t ps k s;
+          load = λ how p none. loaded_keeps old how p t ps k s;
         }
 
 -- and whatever signal comes from outside

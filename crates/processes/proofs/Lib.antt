@@ -11,5 +11,4 @@ pub mod ImageLemmas
 pub mod LoadLemmas
 pub mod Rows
 pub mod Limits
-pub mod FlagLemmas
 pub mod Rooted

@@ -3,8 +3,8 @@ use Rattle.std.proofs.Common.{◌≡◌, ℕ, suc, ◌+◌, ◌<◌, ◌≤◌, 
 use Rattle.std.proofs.Common.{All, length, get_or, drop, set, refl, IsTrue, ap, ◌∙◌, arith, add-one}
 use Rattle.std.specs.Prelude.{count_by, find, if◌then◌else◌, option_map}
 use Rattle.std.proofs.lemmas.Bool.{le-ltb, lt-ltb, lt-leb}
-use Rattle.processes.specs.Attached.Attached.{Taken}
-use Rattle.processes.specs.declared.outcome.Outcome.TheVariants.{Done, Failed}
+use Rattle.processes.specs.declared.outcome.Outcome.TheVariants.{Failed}
+use Rattle.processes.specs.declared.row.Loading.{Loading}
 use Rattle.std.proofs.Math.Seq.{drop-cons}
 use Rattle.std.proofs.lemmas.List.{drop-set-lt}
 use Rattle.std.proofs.lemmas.List.Sums.{sum_by-cons}
@@ -16,7 +16,8 @@ use Rattle.processes.proofs.Numbers.{Ascends, from_order, same_map, to_order}
 use Rattle.processes.specs.declared.task.Task.{Task}
 use Rattle.processes.specs.declared.tasks.Which.{Which}
 use Rattle.processes.specs.declared.tasks.Which.TheVariants as which
-use Rattle.processes.specs.Kernel.{conflicts, first_conflict, is_oldest_part, load, load_size, takes, unless_conflict, with_filter}
+use Rattle.processes.specs.Kernel.{conflict_answer, conflicts, first_conflict, is_oldest_part, load_program, load_size, takes}
+use Rattle.processes.specs.Kernel.{unless_conflict, with_filter}
 use Rattle.processes.specs.Stores.{loads_in, program_filter, size_beside}
 use Rattle.processes.specs.Kept.{process_of}
 use Rattle.processes.specs.inner.Table.{bare_of, given, is_taker}
@@ -83,61 +84,80 @@ last P xs y h = All-contains P (xs ++ y ∷ []) y h (Contains-push xs y)
 
 -- The new list for whoever gets it.
 
-given_same : (test more : Test) (fs : List Filter) (ts : List Process) → ((u : Process) → test u ≡ more u)
-    → given test fs ts ≡ given more fs ts
-given_same test more fs [] h = refl
-given_same test more fs (t ∷ ts) h = rw (h t, given_same test more fs ts h) refl
+given_same : (test more : Test) (l : Option ℕ) (fs : List Filter) (ts : List Process) → ((u : Process) → test u ≡ more u)
+    → given test l fs ts ≡ given more l fs ts
+given_same test more l fs [] h = refl
+given_same test more l fs (t ∷ ts) h = rw (h t, given_same test more l fs ts h) refl
 
 pub loaded_by : {H : Type 0} (seen : H
-    → List Filter) (for_all : Bool) (program : List Insn) (t : Task H) (old new : List Process) (test : Test) (load : ℕ)
-    → new ≡ given test (program_filter load program ∷ seen t.filters) old → ((u : Process) → test u ≡ takes for_all (process_of seen t) u)
-    → new ≡ given (takes for_all (process_of seen t)) (program_filter load program ∷ seen t.filters) old
-loaded_by {H} seen for_all program t old new test load after same =
-    after ∙ given_same test (takes for_all (process_of seen t)) (program_filter load program ∷ seen t.filters) old same
+    → List Filter) (for_all : Bool) (program : List Insn) (t : Task H) (old new : List Process) (test : Test) (load : ℕ) (l : Option ℕ)
+    → new ≡ given test l (program_filter load program ∷ seen t.filters) old → ((u : Process) → test u ≡ takes for_all (process_of seen t) u)
+    → new ≡ given (takes for_all (process_of seen t)) l (program_filter load program ∷ seen t.filters) old
+loaded_by {H} seen for_all program t old new test load l after same =
+    after ∙ given_same test (takes for_all (process_of seen t)) l (program_filter load program ∷ seen t.filters) old same
 
-given_ordered : (test : Test) (fs : List Filter) (low top : ℕ) (ts : List Process) → Ascends low ts top → Ascends low (given test fs ts) top
-given_ordered test fs low top ts p =
-    same_map (λ u. if test u then record u { filters = fs } else u) (λ u. either (λ (v : Process). v.number
-    ≡ u.number) (test u) (record u { filters = fs }) u refl refl) low top ts p
+given_ordered : (test : Test) (l : Option ℕ) (fs : List Filter) (low top : ℕ) (ts : List Process) → Ascends low ts top
+    → Ascends low (given test l fs ts) top
+given_ordered test l fs low top ts p =
+    same_map (λ u. if test u then record u { filters = fs; listener = l } else u) (λ u. either (λ (v : Process). v.number
+    ≡ u.number) (test u) (record u { filters = fs; listener = l }) u refl refl) low top ts p
 
-pub given_kept : (test : Test) (fs : List Filter) (old new : List Process) (top : ℕ) → new ≡ given test fs old
+pub given_kept : (test : Test) (l : Option ℕ) (fs : List Filter) (old new : List Process) (top : ℕ) → new ≡ given test l fs old
     → IsTrue (ascends 0 old top) → IsTrue (ascends 0 new top)
-given_kept test fs old new top same h = rw same (from_order 0 (given test fs old) top (given_ordered test fs 0 top old (to_order 0 old top h)))
+given_kept test l fs old new top same h =
+    rw same (from_order 0 (given test l fs old) top (given_ordered test l fs 0 top old (to_order 0 old top h)))
 
--- What a load leads to, by its cases.
+-- What a load of a program leads to, by its cases.
 
-pub load_big : (for_all : Bool) (program : List Insn) (t : Process) (ps : Processes) → 32768 < length program + size_beside t.filters
-    → load for_all t (Taken program) ps ≡ (Failed 12, ps)
-load_big for_all program t ps h =
+pub load_big : (how : Loading) (program : List Insn) (t : Process) (ps : Processes) → 32768 < length program + size_beside t.filters
+    → load_program how t program ps ≡ (Failed 12, ps)
+load_big how program t ps h =
     let big : 32768 < load_size program t = h in
     rw (lt-ltb 32768 (load_size program t) big) refl
 
-fits : (for_all : Bool) (program : List Insn) (t : Process) (ps : Processes)
+pub load_fits : (how : Loading) (program : List Insn) (t : Process) (ps : Processes)
     → length program + size_beside t.filters ≤ 32768 → ps.loads < 4294967295
-    → load for_all t (Taken program) ps ≡ unless_conflict (first_conflict for_all t ps) ps (with_filter for_all program t ps)
-fits for_all program t ps h less =
+    → load_program how t program ps ≡ unless_conflict how (first_conflict how.for_all t ps) ps (with_filter how program t ps)
+load_fits how program t ps h less =
     let small : load_size program t ≤ 32768 = h in
     rw (le-ltb 32768 (load_size program t) small, lt-leb 4294967295 ps.loads less) refl
 
-pub load_conflict : (program : List Insn) (t : Process) (ps : Processes) (n : ℕ)
-    → length program + size_beside t.filters ≤ 32768 → ps.loads < 4294967295
-    → option_map (λ u. u.number) (find (conflicts t) ps.tasks) ≡ Some n → load true t (Taken program) ps ≡ (Done n, ps)
-load_conflict program t ps n h less e = fits true program t ps h less ∙ by (find (conflicts t) ps.tasks) e
+pub load_conflict : (how : Loading) (program : List Insn) (t : Process) (ps : Processes) (n : ℕ)
+    → length program + size_beside t.filters ≤ 32768 → ps.loads < 4294967295 → how.for_all ≡ true
+    → option_map (λ u. u.number) (find (conflicts t) ps.tasks) ≡ Some n → load_program how t program ps ≡ (conflict_answer how n, ps)
+load_conflict how program t ps n h less all e =
+    load_fits how program t ps h less
+    ∙ (ap (λ b. unless_conflict how (first_conflict b t ps) ps (with_filter how program t ps)) all ∙ by (find (conflicts t) ps.tasks) e)
   where
-    by : (o : Option Process) → option_map (λ u. u.number) o ≡ Some n → unless_conflict o ps (with_filter true program t ps) ≡ (Done n, ps)
+    by : (o : Option Process) → option_map (λ u. u.number) o ≡ Some n
+        → unless_conflict how o ps (with_filter how program t ps) ≡ (conflict_answer how n, ps)
     by None f = absurd (cc)
-    by (Some u) f = let same : u.number ≡ n = cc in ap (λ m. (Done m, ps)) same
+    by (Some u) f = let same : u.number ≡ n = cc in ap (λ m. (conflict_answer how m, ps)) same
 
-pub load_group : (program : List Insn) (t : Process) (ps : Processes)
-    → length program + size_beside t.filters ≤ 32768 → ps.loads < 4294967295
-    → option_map (λ u. u.number) (find (conflicts t) ps.tasks) ≡ None → load true t (Taken program) ps ≡ with_filter true program t ps
-load_group program t ps h less e = fits true program t ps h less ∙ by (find (conflicts t) ps.tasks) e
+pub load_group : (how : Loading) (program : List Insn) (t : Process) (ps : Processes)
+    → length program + size_beside t.filters ≤ 32768 → ps.loads < 4294967295 → how.for_all ≡ true
+    → option_map (λ u. u.number) (find (conflicts t) ps.tasks) ≡ None → load_program how t program ps ≡ with_filter how program t ps
+load_group how program t ps h less all e =
+    load_fits how program t ps h less
+    ∙ (ap (λ b. unless_conflict how (first_conflict b t ps) ps (with_filter how program t ps)) all ∙ by (find (conflicts t) ps.tasks) e)
   where
     by : (o : Option Process) → option_map (λ u. u.number) o ≡ None
-        → unless_conflict o ps (with_filter true program t ps) ≡ with_filter true program t ps
+        → unless_conflict how o ps (with_filter how program t ps) ≡ with_filter how program t ps
     by None f = refl
     by (Some u) f = absurd (cc)
 
-pub load_own : (program : List Insn) (t : Process) (ps : Processes) → length program + size_beside t.filters ≤ 32768 → ps.loads < 4294967295
-    → load false t (Taken program) ps ≡ with_filter false program t ps
-load_own program t ps h less = fits false program t ps h less
+pub load_own : (how : Loading) (program : List Insn) (t : Process) (ps : Processes)
+    → length program + size_beside t.filters ≤ 32768 → ps.loads < 4294967295 → how.for_all ≡ false
+    → load_program how t program ps ≡ with_filter how program t ps
+load_own how program t ps h less alone =
+    load_fits how program t ps h less
+    ∙ ap (λ b. unless_conflict how (first_conflict b t ps) ps (with_filter how program t ps)) alone
+
+-- what a test by `!` tells
+pub is_not : (b : Bool) → not b ≡ true → b ≡ false
+is_not true h = absurd (cc)
+is_not false h = refl
+
+pub is_so : (b : Bool) → not b ≡ false → b ≡ true
+is_so true h = refl
+is_so false h = absurd (cc)

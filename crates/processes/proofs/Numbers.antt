@@ -9,9 +9,10 @@ use Rattle.call_record.specs.declared.layout.Record.{Record}
 use Rattle.bpf_insn.specs.declared.instruction.Insn.{Insn}
 use Rattle.processes.specs.declared.outcome.End.{End}
 use Rattle.processes.specs.declared.outcome.End.TheVariants as end
+use Rattle.processes.specs.declared.row.Loading.{Loading}
 use Rattle.processes.specs.Tasks.{ascends, Process, Processes, is_live, is_task, end_by, end_where}
 use Rattle.processes.specs.Kernel.{forked, cloned, is_sibling, renewed, executed, loaded, takes, signalled, presented}
-use Rattle.processes.specs.Attached.{Attached}
+use Rattle.processes.specs.Attached.{Beside}
 use Rattle.processes.specs.Laws.{Each, NumbersAscend}
 use Rattle.processes.proofs.Changes.{SurvivesStops, either, event_keeps, signal_keeps, stops_too}
 
@@ -85,22 +86,22 @@ image_ordered t top ts p =
     same_map (λ u. if is_task t.group u then renewed t else u) (λ u. number_by t u (u.number == t.group) refl) 0 top (filter test left)
     (fewer test 0 top left (where_ordered (is_sibling t) (end.Signal 9) 0 top ts p))
 
-loaded_ordered : (for_all : Bool) (q : List Insn) (t : Process) (ps : Processes) → InOrder ps → InOrder (loaded for_all q t ps)
-loaded_ordered for_all q t ps p =
-    same_map _ (λ u. either (λ (v : Process). v.number ≡ u.number) (takes for_all t u) _ u refl refl) 0 ps.made ps.tasks p
+loaded_ordered : (how : Loading) (q : List Insn) (t : Process) (ps : Processes) → InOrder ps → InOrder (loaded how q t ps)
+loaded_ordered how q t ps p =
+    same_map _ (λ u. either (λ (v : Process). v.number ≡ u.number) (takes how.for_all t u) _ u refl refl) 0 ps.made ps.tasks p
 
 ends_ordered : SurvivesStops InOrder
 ends_ordered = stops_too InOrder (λ test e ps p. where_ordered test e 0 ps.made ps.tasks p)
 
 -- Whatever a task presents, tasks stay in the order of their numbers,
-pub stays_in_order : (n : ℕ) (r : Record) (a : Attached) (ps : Processes) → InOrder ps → InOrder (presented n r a ps).1
-stays_in_order n r a ps p = event_keeps InOrder n r a ps p (λ t e. record {
+pub stays_in_order : (n : ℕ) (r : Record) (b : Beside) (ps : Processes) → InOrder ps → InOrder (presented n r b ps).1
+stays_in_order n r b ps p = event_keeps InOrder n r b ps p (λ t e. record {
   same = p;
   ends = ends_ordered;
   fork = one_more 0 ps.made ps.tasks (forked t (ps.made + 1)) refl p;
   thread = one_more 0 ps.made ps.tasks (cloned t (ps.made + 1)) refl p;
   image = λ through row. image_ordered t ps.made ps.tasks p;
-  load = λ for_all program none. loaded_ordered for_all program t ps p;
+  load = λ how program none. loaded_ordered how program t ps p;
 })
 
 -- and whatever signal comes from outside
@@ -146,7 +147,7 @@ first_is_least test low top (t
 pub numbers_ascend : NumbersAscend
 numbers_ascend = record {
   begin = λ native judge. refl;
-  event = λ n r a ps h. let q = presented n r a ps in
-      from_order 0 q.1.tasks q.1.made (stays_in_order n r a ps (to_order 0 ps.tasks ps.made h));
+  event = λ n r b ps h. let q = presented n r b ps in
+      from_order 0 q.1.tasks q.1.made (stays_in_order n r b ps (to_order 0 ps.tasks ps.made h));
   signal = λ sig ps h. from_order 0 (signalled sig ps).tasks (signalled sig ps).made (signal_ordered sig ps (to_order 0 ps.tasks ps.made h));
 }

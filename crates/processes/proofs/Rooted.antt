@@ -1,5 +1,5 @@
 -- Every task has a filter, whatever tasks do, so what is seen of a handle stays while a store gains filters.
-use Rattle.std.proofs.Common.{◌≡◌, ℕ, zero, suc, Bool, true, if◌then◌else◌, List, [], ◌∷◌, ◌++◌, Some, refl, ap, subst, IsTrue}
+use Rattle.std.proofs.Common.{◌≡◌, ℕ, zero, suc, Bool, true, if◌then◌else◌, List, [], ◌∷◌, ◌++◌, Option, Some, refl, ap, subst, IsTrue}
 use Rattle.std.specs.Prelude.{slice_get}
 use Rattle.std.proofs.lemmas.Bool.{and_parts}
 use Rattle.processes.specs.declared.outcome.End.{End}
@@ -36,12 +36,13 @@ pub image_rooted : (t : Process) (old new : List Process) → new ≡ executed t
     → IsTrue (is_rooted old) → IsTrue (is_rooted new)
 image_rooted t old new same own h = rw same (from_each (executed t old) (image_each Rooted (λ e u p. p) t own old (to_each old h)))
 
-pub given_rooted : (test : Process → Bool) (fs : List Filter) (old new : List Process) → new ≡ given test fs old → has_filter fs ≡ true
+pub given_rooted : (test : Process → Bool) (l : Option ℕ) (fs : List Filter) (old new : List Process) → new ≡ given test l fs old
+    → has_filter fs ≡ true
     → IsTrue (is_rooted old) → IsTrue (is_rooted new)
-given_rooted test fs old new same own h =
-    rw same (from_each (given test fs old)
-    (each_map Rooted Rooted (λ u. if test u then record u { filters = fs } else u)
-    (λ u p. either Rooted (test u) (record u { filters = fs }) u own p) old (to_each old h)))
+given_rooted test l fs old new same own h =
+    rw same (from_each (given test l fs old)
+    (each_map Rooted Rooted (λ u. if test u then record u { filters = fs; listener = l } else u)
+    (λ u p. either Rooted (test u) (record u { filters = fs; listener = l }) u own p) old (to_each old h)))
 
 -- the task at a place has a filter
 pub rooted_at : {H : Type 0} (seen : H → List Filter) (tasks : List (Task H)) (at : ℕ) (t : Task H) → slice_get tasks at ≡ Some t

@@ -9,6 +9,7 @@ use Rattle.bpf_insn.specs.declared.instruction.Insn.{Insn}
 use Rattle.bpf_insn.specs.Code.{operation_of}
 use Rattle.bpf_insn.specs.Bytes.{insns_of, max_insns, view_fault}
 use Rattle.kernel_check.specs.Accepted.{IsAccepted}
+use Rattle.processes.specs.declared.outcome.Response.{Response}
 
 -- no cause but Scratch stands where this operation is at position i of n
 abbrev pub is_sound : Option Operation → ℕ → ℕ → Insn → Bool
@@ -79,6 +80,17 @@ abbrev pub is_taken : Attached → Bool
 is_taken NoBytes = false
 is_taken Refused = false
 is_taken (Taken program) = true
+
+-- what stands beside a call: what the task attaches to it, and what a listener responds that is told of it, if one does
+pub record Beside : Type 0 where
+  pub attached : Attached
+  pub response : Option Response
+
+abbrev pub beside_of : Option (List ℕ) → Option Response → Beside
+beside_of bytes response = record { attached = attached_of bytes; response = response }
+
+abbrev pub nothing_beside : Beside
+nothing_beside = record { attached = NoBytes; response = None }
 
 -- the test is true exactly where the kernel accepts the program
 abbrev pub TestIsRight : Type 0

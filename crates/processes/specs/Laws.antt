@@ -2,12 +2,11 @@
 use Rattle.std.specs.Prelude.{ℕ, ◌≡◌, ◌==◌, ◌&&◌, Bool, true, false, IsTrue, List, [], ◌∷◌, ◌++◌, Option, None, Some, if◌then◌else◌}
 use Rattle.std.specs.List.{list_any}
 use Rattle.call_record.specs.declared.layout.Record.{Record}
-use Rattle.call_record.specs.Verdict.{is_through}
 use Rattle.call_tables.specs.declared.arch.Arch.{Arch}
 use Rattle.processes.specs.declared.outcome.End.{End}
-use Rattle.processes.specs.Attached.{Attached}
+use Rattle.processes.specs.Attached.{Beside}
 use Rattle.processes.specs.Calls.{row_of}
-use Rattle.processes.specs.Kernel.{presented, signalled, verdict_on}
+use Rattle.processes.specs.Kernel.{passes, presented, signalled, verdict_on}
 use Rattle.processes.specs.Tasks.{Filter, Judge, Process, Processes, admitted, ended, is_in_group}
 use Rattle.processes.specs.Tasks.{is_live, is_task, in_order, live_task, lives}
 use Rattle.processes.specs.declared.row.Row.{Row}
@@ -32,15 +31,15 @@ KeepsBehind old t = StandsBehind old t.filters
 -- the oldest filter of each task is the container's first
 pub record FirstFilterStays : Type 0 where
   pub begin : (native : Arch) (judge : Judge) → Each (KeepsBehind (record { load = 0; judge = judge } ∷ [])) (admitted native judge).tasks
-  pub event : (old : List Filter) (n : ℕ) (r : Record) (a : Attached) (ps : Processes) → Each (KeepsBehind old) ps.tasks
-      → Each (KeepsBehind old) (presented n r a ps).1.tasks
+  pub event : (old : List Filter) (n : ℕ) (r : Record) (b : Beside) (ps : Processes) → Each (KeepsBehind old) ps.tasks
+      → Each (KeepsBehind old) (presented n r b ps).1.tasks
   pub signal : (old : List Filter) (sig : ℕ) (ps : Processes) → Each (KeepsBehind old) ps.tasks
       → Each (KeepsBehind old) (signalled sig ps).tasks
 
 -- tasks stand in the order of their numbers, of which none is above the count of tasks made
 pub record NumbersAscend : Type 0 where
   pub begin : (native : Arch) (judge : Judge) → IsTrue (in_order (admitted native judge))
-  pub event : (n : ℕ) (r : Record) (a : Attached) (ps : Processes) → IsTrue (in_order ps) → IsTrue (in_order (presented n r a ps).1)
+  pub event : (n : ℕ) (r : Record) (b : Beside) (ps : Processes) → IsTrue (in_order ps) → IsTrue (in_order (presented n r b ps).1)
   pub signal : (sig : ℕ) (ps : Processes) → IsTrue (in_order ps) → IsTrue (in_order (signalled sig ps))
 
 -- a task of the group bears its number
@@ -54,8 +53,8 @@ GroupsAreLed tasks = Each (λ t. IsTrue (is_led t.group tasks)) tasks
 -- so a container begins, and so it stays
 pub record GroupsStayLed : Type 0 where
   pub begin : (native : Arch) (judge : Judge) → GroupsAreLed (admitted native judge).tasks
-  pub event : (n : ℕ) (r : Record) (a : Attached) (ps : Processes) → IsTrue (in_order ps)
-      → GroupsAreLed ps.tasks → GroupsAreLed (presented n r a ps).1.tasks
+  pub event : (n : ℕ) (r : Record) (b : Beside) (ps : Processes) → IsTrue (in_order ps)
+      → GroupsAreLed ps.tasks → GroupsAreLed (presented n r b ps).1.tasks
   pub signal : (sig : ℕ) (ps : Processes) → GroupsAreLed ps.tasks → GroupsAreLed (signalled sig ps).tasks
 
 -- where no task of group 1 lives, none does
@@ -67,23 +66,23 @@ NoneOutlives ps = lives ps ≡ false → Each HasEnded ps.tasks
 pub record NoneOutlivesGroup1 : Type 0 where
   pub end : (test : Process → Bool) (e : End) (ps : Processes) → NoneOutlives (ended test e ps)
   pub begin : (native : Arch) (judge : Judge) → NoneOutlives (admitted native judge)
-  pub event : (n : ℕ) (r : Record) (a : Attached) (ps : Processes) → IsTrue (in_order ps) → GroupsAreLed ps.tasks → NoneOutlives ps
-      → NoneOutlives (presented n r a ps).1
+  pub event : (n : ℕ) (r : Record) (b : Beside) (ps : Processes) → IsTrue (in_order ps) → GroupsAreLed ps.tasks → NoneOutlives ps
+      → NoneOutlives (presented n r b ps).1
   pub signal : (sig : ℕ) (ps : Processes) → NoneOutlives ps → NoneOutlives (signalled sig ps)
 
 abbrev pub is_execve : Row → Bool
 is_execve Execve = true
 is_execve row = false
 
--- the task's filters let the call through, and it is an execve
-abbrev pub executes : Record → Processes → Process → Bool
-executes r ps t = is_through (verdict_on r t) && is_execve (row_of ps.native r)
+-- the task's filters let the call through, or a listener continues it, and it is an execve
+abbrev pub executes : Record → Beside → Processes → Process → Bool
+executes r b ps t = passes (verdict_on r t) r b t && is_execve (row_of ps.native r)
 
-abbrev pub goes_on_by : Option Process → Record → ℕ → Processes → Option Process
-goes_on_by None r m ps = live_task m ps.tasks
-goes_on_by (Some t) r m ps = if executes r ps t && (t.group == m) then Some t else live_task m ps.tasks
+abbrev pub goes_on_by : Option Process → Record → Beside → ℕ → Processes → Option Process
+goes_on_by None r b m ps = live_task m ps.tasks
+goes_on_by (Some t) r b m ps = if executes r b ps t && (t.group == m) then Some t else live_task m ps.tasks
 
 -- the live task that goes on under number m after task n presents a record: the caller of an execve under its group's
 -- number, and any other under its own
-abbrev pub goes_on : ℕ → Record → ℕ → Processes → Option Process
-goes_on n r m ps = goes_on_by (live_task n ps.tasks) r m ps
+abbrev pub goes_on : ℕ → Record → Beside → ℕ → Processes → Option Process
+goes_on n r b m ps = goes_on_by (live_task n ps.tasks) r b m ps

@@ -1,6 +1,8 @@
 -- What a store of filters says of the filters that a handle stands for.
-use Rattle.std.specs.Prelude.{ℕ, ◌+◌, Bool, true, false, List, [], ◌∷◌, map, sum_by}
+use Rattle.std.specs.Prelude.{ℕ, ◌+◌, ◌==◌, Bool, true, false, List, [], ◌∷◌, Option, find, map, option_map, sum_by}
 use Rattle.std.specs.List.{list_all}
+use Rattle.call_record.specs.declared.layout.Record.{Record}
+use Rattle.call_record.specs.Verdict.{action, user_notif}
 use Rattle.bpf_insn.specs.declared.instruction.Insn.{Insn}
 use Rattle.processes.specs.Tasks.{Filter, Process, program_judge}
 
@@ -20,6 +22,14 @@ size_beside fs = sum_by (λ f. f.judge.count + 4) fs
 -- their load numbers
 abbrev pub loads_in : List Filter → List ℕ
 loads_in fs = map (λ f. f.load) fs
+
+-- the filter's verdict notifies a listener
+abbrev pub notifies : Record → Filter → Bool
+notifies r f = action (f.judge.verdict r) == user_notif
+
+-- the newest whose verdict does, by its load number
+abbrev pub notifier : Record → List Filter → Option ℕ
+notifier r fs = option_map (λ f. f.load) (find (notifies r) fs)
 
 -- a program that was loaded under a number
 abbrev pub program_filter : ℕ → List Insn → Filter

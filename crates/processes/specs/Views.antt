@@ -8,7 +8,7 @@ use Rattle.processes.specs.declared.outcome.Outcome.TheVariants.{NoTask}
 use Rattle.processes.specs.declared.outcome.TaskView.{TaskView}
 use Rattle.processes.specs.Tasks.{Process, Processes, is_task, lives}
 use Rattle.processes.specs.Kernel.{presented, can_grow}
-use Rattle.processes.specs.Attached.{Attached}
+use Rattle.processes.specs.Attached.{Beside}
 
 -- the same text
 abbrev pub same_text : List ℕ → List ℕ → Bool
@@ -27,13 +27,13 @@ abbrev pub Same : Containers → Containers → Type 0
 Same old new = (q : List ℕ) → new q ≡ old q
 
 -- an event of a container that may not be admitted
-abbrev pub present_in : ℕ → Record → Attached → Option Processes → Outcome × Option Processes
-present_in n r a None = (NoTask, None)
-present_in n r a (Some ps) = let p = presented n r a ps in (p.0, Some p.1)
+abbrev pub present_in : ℕ → Record → Beside → Option Processes → Outcome × Option Processes
+present_in n r b None = (NoTask, None)
+present_in n r b (Some ps) = let p = presented n r b ps in (p.0, Some p.1)
 
-abbrev pub can_grow_in : ℕ → Record → Attached → Option Processes → Bool
-can_grow_in n r a None = false
-can_grow_in n r a (Some ps) = can_grow n r a ps
+abbrev pub can_grow_in : ℕ → Record → Beside → Option Processes → Bool
+can_grow_in n r b None = false
+can_grow_in n r b (Some ps) = can_grow n r b ps
 
 -- a task of group 1 lives in it
 abbrev pub lives_in : Option Processes → Bool

@@ -61,6 +61,7 @@ impl<S: Store> Container<S> {
             images: 0,
             end: None,
             filters,
+            listener: None,
         })?;
         Ok(Container {
             native,
@@ -88,7 +89,13 @@ impl<S: Store> Container<S> {
     }
 
     // A new task, with the next number.
-    fn add(&mut self, group: u32, parent: u32, filters: S::Handle) -> Result<Outcome, AllocError>
+    fn add(
+        &mut self,
+        group: u32,
+        parent: u32,
+        filters: S::Handle,
+        listener: Option<u32>,
+    ) -> Result<Outcome, AllocError>
         requires room { self.old.made < 1024 }
         requires rooted { has_filter (S.filters_of self.old.store filters) ≡ true }
         ensures ok { IfOk result (λ o. (o, processes_of self.new) ≡ with_next
@@ -99,6 +106,7 @@ impl<S: Store> Container<S> {
               images = 0;
               end = None;
               filters = S.filters_of self.old.store filters;
+              listener = listener;
             }) (processes_of self.old)) }
         ensures err { OnErr result (processes_of self.new ≡ processes_of self.old) }
     {
@@ -110,6 +118,7 @@ impl<S: Store> Container<S> {
             images: 0,
             end: None,
             filters,
+            listener,
         })?;
         self.made = number;
         Ok(Outcome::Done(number))
@@ -127,9 +136,9 @@ impl<S: Store> Container<S> {
             return Ok(Outcome::Failed(EAGAIN));
         }
         let caller = &self.tasks[at];
-        let parent = caller.group;
+        let (parent, listener) = (caller.group, caller.listener);
         let filters = self.store.copied(alloc, &caller.filters)?;
-        self.add(self.made + 1, parent, filters)
+        self.add(self.made + 1, parent, filters, listener)
     }
 
     /// A new task of the group of the task at a place, with its filters.
@@ -144,9 +153,9 @@ impl<S: Store> Container<S> {
             return Ok(Outcome::Failed(EAGAIN));
         }
         let caller = &self.tasks[at];
-        let (group, parent) = (caller.group, caller.parent);
+        let (group, parent, listener) = (caller.group, caller.parent, caller.listener);
         let filters = self.store.copied(alloc, &caller.filters)?;
-        self.add(group, parent, filters)
+        self.add(group, parent, filters, listener)
     }
 
     /// A signal to a group from one of the tasks: group 1 is never ended from inside.

@@ -12,5 +12,8 @@ pub(crate) const ENOMEM: u16 = 12;
 /// Bad address.
 pub(crate) const EFAULT: u16 = 14;
 
+/// Busy.
+pub(crate) const EBUSY: u16 = 16;
+
 /// Invalid argument.
 pub(crate) const EINVAL: u16 = 22;

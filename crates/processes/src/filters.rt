@@ -19,6 +19,7 @@ pub(crate) struct Loaded {
 }
 
 impl Loaded {
+    ghost use Rattle.processes.specs.Stores.{notifies};
     ghost use Rattle.processes.specs.inner.Loads.{filter_of};
 
     // A copy of the program, with its load number.
@@ -41,6 +42,13 @@ impl Loaded {
         ensures { result ≡ (filter_of self.now).judge.verdict rec.now }
     {
         verdict(&self.program.as_accepted(), rec)
+    }
+
+    // Whether its verdict notifies a listener.
+    fn notifies(&self, rec: &Record) -> bool
+        ensures { result ≡ notifies rec.now (filter_of self.now) }
+    {
+        self.verdict(rec).action() == Word::USER_NOTIF
     }
 
     // For how many instructions the filter counts beside a further one.
@@ -73,6 +81,7 @@ impl Model for Filters {
 impl Filters {
     ghost use Rattle.processes.specs.Kernel.{is_oldest_part};
     ghost use Rattle.call_record.specs.Verdict.{strictest_of};
+    ghost use Rattle.processes.specs.Stores.{notifier};
     ghost use Rattle.processes.specs.inner.Loads.{filter_of, filters_of, loads_of, total_size};
 
     // A filter in front of copies of others.
@@ -150,6 +159,13 @@ impl Filters {
         })
     }
 
+    /// The newest filter whose verdict notifies a listener, by its load number.
+    pub(crate) fn notifier(&self, rec: &Record) -> Option<u32>
+        ensures { result ≡ notifier rec.now (filters_of self.now) }
+    {
+        first_notifier(&self.list, rec)
+    }
+
     /// Whether these are what is left of others after their newest are dropped.
     pub(crate) fn is_oldest_part_of(&self, newer: &Filters) -> bool
         ensures { result ≡ is_oldest_part (loads_of self.now) (loads_of newer.now) }
@@ -217,13 +233,18 @@ impl Store for OwnLists {
         handle.verdict(rec)
     }
 
+    fn notifier(&self, handle: &Filters, rec: &Record) -> Option<u32> {
+        handle.notifier(rec)
+    }
+
     fn is_oldest_part(&self, older: &Filters, newer: &Filters) -> bool {
         older.is_oldest_part_of(newer)
     }
 }
 
 ghost use Rattle.std.specs.Prelude.{All, vec_len};
-ghost use Rattle.processes.specs.inner.Loads.{loads_of as loads, total_size as total};
+ghost use Rattle.processes.specs.Stores.{notifier as notifying};
+ghost use Rattle.processes.specs.inner.Loads.{filters_of as seen, loads_of as loads, total_size as total};
 
 // So many copies.
 fn copies_of(alloc: Global, filters: &Filters, count: usize) -> Result<Vec<Filters>, AllocError>
@@ -249,6 +270,18 @@ fn copied_onto(
         list.push(filter.copied(alloc)?)?;
     }
     Ok(list)
+}
+
+// The first of these whose verdict notifies a listener, by its load number.
+fn first_notifier(list: &[Loaded], rec: &Record) -> Option<u32>
+    ensures { result ≡ notifying rec.now (seen list.now) }
+{
+    for filter in list {
+        if filter.notifies(rec) {
+            return Some(filter.load);
+        }
+    }
+    None
 }
 
 // For how many instructions filters count.

@@ -1,7 +1,10 @@
 //! The flags of seccomp(2) with a filter.
-ghost use Rattle.std.specs.Prelude.{⊤, [], ◌∷◌, codes};
+ghost use Rattle.std.specs.Prelude.{⊤, ◌≡◌, [], ◌∷◌, codes};
+ghost use Rattle.call_tables.specs.Arch.{family_of};
+ghost use Rattle.processes.specs.Calls.{known_flags};
 
 use bitflags::{Flag, Flags, bitflag_items};
+use call_tables::{Arch, Family};
 
 /// The flags that the kernel knows.
 #[derive(Clone, Copy)]
@@ -11,6 +14,10 @@ bitflag_items! {
     impl FilterFlags: u64 {
         /// The filter is for all tasks of the caller's group.
         const TSYNC = 1;
+        /// The filter gets a listener, which is told of the calls that it notifies.
+        const NEW_LISTENER = 8;
+        /// What TSYNC cannot do is told by an error.
+        const TSYNC_ESRCH = 16;
     }
 }
 
@@ -19,7 +26,7 @@ impl Flags for FilterFlags {
 
     ghost exact = { ⊤ };
 
-    ghost table = { (codes "TSYNC", 1) ∷ [] };
+    ghost table = { (codes "TSYNC", 1) ∷ (codes "NEW_LISTENER", 8) ∷ (codes "TSYNC_ESRCH", 16) ∷ [] };
 
     ghost set_of = { λ flags. flags.0 };
 
@@ -33,5 +40,15 @@ impl Flags for FilterFlags {
 
     fn from_bits_retain(bits: u64) -> FilterFlags {
         FilterFlags(bits)
+    }
+}
+
+/// The bits of the flags that the kernel of a machine knows.
+pub(crate) fn known_flags(native: Arch) -> u64
+    ensures { result ≡ known_flags (family_of native) }
+{
+    match native.family() {
+        Family::Chosen => 1,
+        Family::Whole => 25,
     }
 }

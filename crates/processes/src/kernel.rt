@@ -1,14 +1,14 @@
 //! What a kernel offers to whoever runs containers on it.
 ghost use Rattle.std.specs.Prelude.{◌≡◌, ◌≤◌, List, ℕ, Option, None, Some, true, IfOk, OnOk, OnErr};
 ghost use Rattle.std.specs.Prelude.{option_map, option_and_then};
-ghost use Rattle.processes.specs.Attached.{attached_of};
+ghost use Rattle.processes.specs.Attached.{beside_of};
 ghost use Rattle.processes.specs.First.{begun_with};
 ghost use Rattle.processes.specs.Kernel.{signalled};
 ghost use Rattle.processes.specs.Tasks.{Processes};
 ghost use Rattle.processes.specs.Views.{Same, SetAt, can_grow_in, lives_in, present_in, view_of_task};
 
 use crate::id::Id;
-use crate::outcome::{Outcome, TaskView};
+use crate::outcome::{Outcome, Response, TaskView};
 use call_record::Record;
 use cert_check::Checked;
 use std::alloc::AllocError;
@@ -25,24 +25,25 @@ pub trait Kernel {
             (SetAt (processes self.old) (processes self.new) id.now (Some (begun_with first.entry))) }
         ensures err { OnErr result (Same (processes self.old) (processes self.new)) };
 
-    /// A task presents a record, perhaps with a program attached.
+    /// A task presents a record, perhaps with a program attached. A listener that is told of it responds this.
     ///
-    /// Memory is taken only for a call that the task's filters let through and that makes a task, or loads a program
-    /// that the kernel accepts.
+    /// Memory is taken only for a call that is carried out and that makes a task, or loads a program that the kernel
+    /// accepts.
     fn present(
         &mut self,
         id: &Id,
         task: u64,
         rec: &Record,
         attached: Option<&[u8]>,
+        response: Option<Response>,
     ) -> Result<Outcome, AllocError>
-        ensures outcome { let given = attached_of (option_map (λ a. a.now) attached.entry) in
+        ensures outcome { let given = beside_of (option_map (λ a. a.now) attached.entry) response in
             IfOk result (λ o. o ≡ (present_in task rec.now given (processes self.old id.now)).0) }
-        ensures ok { let given = attached_of (option_map (λ a. a.now) attached.entry) in
+        ensures ok { let given = beside_of (option_map (λ a. a.now) attached.entry) response in
             OnOk result (SetAt (processes self.old) (processes self.new) id.now
             (present_in task rec.now given (processes self.old id.now)).1) }
         ensures err { OnErr result (Same (processes self.old) (processes self.new)) }
-        ensures growth { let given = attached_of (option_map (λ a. a.now) attached.entry) in
+        ensures growth { let given = beside_of (option_map (λ a. a.now) attached.entry) response in
             OnErr result (can_grow_in task rec.now given (processes self.old id.now) ≡ true) };
 
     /// A signal from outside to all tasks of group 1, of which one lives.

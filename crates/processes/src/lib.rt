@@ -27,7 +27,7 @@ pub use law::{
     attached_programs_are_checked, first_filter_stays, groups_stay_led, none_outlives_group_1,
     numbers_ascend,
 };
-pub use outcome::{End, Outcome, TaskView};
+pub use outcome::{End, Outcome, Response, TaskView};
 pub use signals::{LAST_SIGNAL, is_fatal};
 pub use store::Store;
 pub use table::{Table, TaskTable};

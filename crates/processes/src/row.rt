@@ -1,9 +1,9 @@
 //! The rows of the table of calls: what the kernel knows of a record before any task is looked at.
 ghost use Rattle.std.specs.Prelude.{◌≡◌};
-ghost use Rattle.processes.specs.Calls.{clone_flags, prctl_row, row_by, row_of, seccomp_row};
+ghost use Rattle.processes.specs.Calls.{clone_flags, loading_of, loading_row, prctl_row, row_by, row_of, seccomp_row};
 
 use crate::calls::Call;
-use crate::flags::FilterFlags;
+use crate::flags::{FilterFlags, known_flags};
 use bitflags::Flags;
 use call_record::Record;
 use call_tables::Arch;
@@ -19,6 +19,17 @@ const PR_SET_SECCOMP: u64 = 22;
 
 // What seccomp is to do: filter.
 const MODE_FILTER: u64 = 2;
+
+/// How a filter is loaded.
+#[derive(Clone, Copy)]
+pub struct Loading {
+    /// For all tasks of the caller's group, and not for the caller alone.
+    pub for_all: bool,
+    /// With a listener.
+    pub listens: bool,
+    /// A task that cannot get it is told by an error, and not by its number.
+    pub tells_error: bool,
+}
 
 /// A row of the table of calls.
 #[derive(Clone, Copy)]
@@ -42,10 +53,7 @@ pub enum Row {
     /// The number of the caller's parent.
     GetParent,
     /// seccomp or prctl with a filter.
-    Load {
-        /// For all tasks of the caller's group, and not for the caller alone.
-        for_all: bool,
-    },
+    Load(Loading),
     /// Any other seccomp or prctl.
     NoLoad,
     /// Any other call that the machine has.
@@ -54,19 +62,40 @@ pub enum Row {
     Missing,
 }
 
+// How these flags ask for a filter to be loaded.
+fn loading_of(bits: u64) -> Loading
+    ensures { result ≡ loading_of bits }
+{
+    let flags = FilterFlags::from_bits_retain(bits);
+    Loading {
+        for_all: flags.contains(FilterFlags::TSYNC),
+        listens: flags.contains(FilterFlags::NEW_LISTENER),
+        tells_error: flags.contains(FilterFlags::TSYNC_ESRCH),
+    }
+}
+
+// The row of a load: a listener's number and a task's could not be told apart.
+fn loading_row(loading: Loading) -> Row
+    ensures { result ≡ loading_row loading }
+{
+    if loading.for_all && loading.listens && !loading.tells_error {
+        return Row::NoLoad;
+    }
+    Row::Load(loading)
+}
+
 // The row of a seccomp call.
-fn seccomp_row(rec: &Record) -> Row
-    ensures { result ≡ seccomp_row rec.now }
+fn seccomp_row(native: Arch, rec: &Record) -> Row
+    ensures { result ≡ seccomp_row native rec.now }
 {
     if rec.args[0] != SET_MODE_FILTER {
         return Row::NoLoad;
     }
-    match FilterFlags::from_bits(rec.args[1]) {
-        None => Row::NoLoad,
-        Some(flags) => Row::Load {
-            for_all: flags.contains(FilterFlags::TSYNC),
-        },
+    let bits = rec.args[1];
+    if bits & known_flags(native) != bits {
+        return Row::NoLoad;
     }
+    loading_row(loading_of(bits))
 }
 
 // The row of a prctl call.
@@ -79,7 +108,7 @@ fn prctl_row(rec: &Record) -> Row
     if rec.args[1] != MODE_FILTER {
         return Row::NoLoad;
     }
-    Row::Load { for_all: false }
+    Row::Load(loading_of(0))
 }
 
 // The flags of a clone call, which on s390x and s390 are its second argument (clone(2)).
@@ -94,8 +123,8 @@ fn clone_flags(rec: &Record) -> u64
 }
 
 // The row of a record of this call.
-fn row_by(call: Call, rec: &Record) -> Row
-    ensures { result ≡ row_by call rec.now }
+fn row_by(native: Arch, call: Call, rec: &Record) -> Row
+    ensures { result ≡ row_by native call rec.now }
 {
     match call {
         Call::Fork => Row::NewTask,
@@ -113,7 +142,7 @@ fn row_by(call: Call, rec: &Record) -> Row
         Call::GetPid => Row::GetPid,
         Call::GetTid => Row::GetTid,
         Call::GetParent => Row::GetParent,
-        Call::Seccomp => seccomp_row(rec),
+        Call::Seccomp => seccomp_row(native, rec),
         Call::Prctl => prctl_row(rec),
         Call::Lacking => Row::Missing,
         Call::Plain => Row::Plain,
@@ -130,5 +159,5 @@ pub(crate) fn row_of(native: Arch, rec: &Record) -> Row
     if native.name(rec.nr).is_none() {
         return Row::Missing;
     }
-    row_by(Call::numbered(native, rec.nr), rec)
+    row_by(native, Call::numbered(native, rec.nr), rec)
 }

@@ -3,7 +3,7 @@ ghost use Rattle.std.specs.Prelude.{ℕ, ◌≡◌, ◌+◌, ◌-◌, ◌^◌, �
 ghost use Rattle.call_record.specs.Verdict.{strictest_of};
 ghost use Rattle.kernel_check.specs.Lent.{accepted_insns};
 ghost use Rattle.processes.specs.Kernel.{is_oldest_part};
-ghost use Rattle.processes.specs.Stores.{has_filter, loads_in, program_filter, size_beside};
+ghost use Rattle.processes.specs.Stores.{has_filter, loads_in, notifier, program_filter, size_beside};
 ghost use Rattle.processes.specs.Tasks.{Filter};
 
 use call_record::{Record, Word};
@@ -72,6 +72,10 @@ pub trait Store: Drop {
     /// The strictest verdict that a handle's filters give.
     fn verdict(&self, handle: &Self::Handle, rec: &Record) -> Word
         ensures { result ≡ strictest_of (map (λ f. f.judge.verdict rec.now) (filters_of self.now handle.now)) };
+
+    /// The newest of a handle's filters whose verdict notifies a listener, by its load number.
+    fn notifier(&self, handle: &Self::Handle, rec: &Record) -> Option<u32>
+        ensures { result ≡ notifier rec.now (filters_of self.now handle.now) };
 
     /// Whether a handle's filters are what is left of another's after their newest are dropped, by
     /// their load numbers.

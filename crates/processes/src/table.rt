@@ -3,7 +3,7 @@ use crate::container::Container;
 use crate::filters::OwnLists;
 use crate::id::Id;
 use crate::kernel::Kernel;
-use crate::outcome::{Outcome, TaskView};
+use crate::outcome::{Outcome, Response, TaskView};
 use crate::store::Store;
 use call_record::Record;
 use cert_check::Checked;
@@ -53,11 +53,12 @@ impl<S: Store> Kernel for Table<S> {
         task: u64,
         rec: &Record,
         attached: Option<&[u8]>,
+        response: Option<Response>,
     ) -> Result<Outcome, AllocError> {
         let alloc = self.alloc;
         match self.containers.get_mut(id) {
             None => Ok(Outcome::NoTask),
-            Some(container) => container.present(alloc, task, rec, attached),
+            Some(container) => container.present(alloc, task, rec, attached, response),
         }
     }
 

@@ -15,6 +15,8 @@ pub(crate) struct Task<H> {
     pub(crate) images: u64,
     pub(crate) end: Option<End>,
     pub(crate) filters: H,
+    /// Which of these has a listener, by its load number.
+    pub(crate) listener: Option<u32>,
 }
 
 /// Whether a task lives.

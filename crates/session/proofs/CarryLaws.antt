@@ -5,7 +5,7 @@ use Rattle.std.specs.Option.{option_map}
 use Rattle.std.proofs.lemmas.Option.{none-some, same_Some}
 use Rattle.cert_check.specs.declared.checked.Checked.{Checked}
 use Rattle.call_record.specs.declared.layout.Record.{Record}
-use Rattle.processes.specs.Attached.{attached_of}
+use Rattle.processes.specs.Attached.{beside_of}
 use Rattle.lifecycle.specs.Commands.{Command, id_of}
 use Rattle.lifecycle.specs.Commands as command
 use Rattle.script.specs.Commands as script
@@ -24,5 +24,5 @@ names bundles (script.Delete id) c h = let same : c ≡ command.Delete id = same
 names bundles (script.State id) c h = let same : c ≡ command.State id = same_Some _ _ h in ap id_of same
 names bundles (script.Kill id signal) c h = let same : c ≡ command.Kill id signal = same_Some _ _ h in ap id_of same
 names bundles (script.Call id task arch nr args program) c h = called h.0 h.2 where
-  called : (r : Record) → Some c ≡ Some (command.Call id task r (attached_of program)) → id_of c ≡ id
-  called r e = let same : c ≡ command.Call id task r (attached_of program) = same_Some _ _ e in ap id_of same
+  called : (r : Record) → Some c ≡ Some (command.Call id task r (beside_of program None)) → id_of c ≡ id
+  called r e = let same : c ≡ command.Call id task r (beside_of program None) = same_Some _ _ e in ap id_of same

@@ -5,7 +5,7 @@ use Rattle.call_record.specs.declared.layout.Record.{Record}
 use Rattle.call_record.specs.Record.{words}
 use Rattle.call_record.proofs.RecordLemmas.{same_from_words}
 use Rattle.call_tables.specs.declared.arch.Arch.{Arch}
-use Rattle.processes.specs.Attached.{attached_of}
+use Rattle.processes.specs.Attached.{beside_of}
 use Rattle.lifecycle.specs.Commands.{Command}
 use Rattle.lifecycle.specs.Commands as command
 use Rattle.script.specs.Commands as script
@@ -33,7 +33,7 @@ one_meaning bundles (script.State id) a b h g = h ∙ sym g
 one_meaning bundles (script.Kill id signal) a b h g = h ∙ sym g
 one_meaning bundles (script.Call id task arch nr args program) a b h g =
     let same : h.0 ≡ g.0 = one_record arch nr args h.0 g.0 h.1 g.1 in
-    h.2 ∙ (ap (λ (r : Record). Some (command.Call id task r (attached_of program))) same ∙ sym g.2)
+    h.2 ∙ (ap (λ (r : Record). Some (command.Call id task r (beside_of program None))) same ∙ sym g.2)
 
 line_means_one : (bundles : Bundles) (o : Option script.Command) (a b : Option Command) → LineMeans bundles o a → LineMeans bundles o b → a ≡ b
 line_means_one bundles None a b h g = h ∙ sym g

@@ -5,7 +5,7 @@ use Rattle.std.specs.List.{join_with_byte}
 use Rattle.cert_check.specs.declared.checked.Checked.{Checked}
 use Rattle.processes.specs.Ids.{is_id}
 use Rattle.processes.specs.declared.outcome.Outcome.{Outcome}
-use Rattle.processes.specs.declared.outcome.Outcome.TheVariants.{Done, Failed, Absent, Denied, NoTask}
+use Rattle.processes.specs.declared.outcome.Outcome.TheVariants.{Done, Failed, Absent, Denied, Answered, Declined, NoTask}
 use Rattle.lifecycle.specs.declared.command.Reply.{Reply}
 use Rattle.lifecycle.specs.declared.command.Reply.TheVariants.{Accepted, Refused, Presented, IsIn}
 use Rattle.lifecycle.specs.declared.command.Status.{Status}
@@ -37,6 +37,8 @@ started (Done n) = refl
 started (Failed e) = refl
 started Absent = refl
 started (Denied v) = refl
+started (Answered n) = refl
+started (Declined e) = refl
 started NoTask = refl
 
 by_test : (b : Bool) (r s : Reply) (x y : Option Container) → tells r ≡ false → tells s ≡ false

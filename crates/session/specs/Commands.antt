@@ -5,7 +5,7 @@ use Rattle.call_tables.specs.declared.arch.Arch.{Arch}
 use Rattle.call_tables.specs.Arch.{token_of}
 use Rattle.call_record.specs.declared.layout.Record.{Record}
 use Rattle.cert_check.specs.declared.checked.Checked.{Checked}
-use Rattle.processes.specs.Attached.{attached_of}
+use Rattle.processes.specs.Attached.{beside_of}
 use Rattle.processes.specs.Views.{same_text}
 use Rattle.lifecycle.specs.Commands.{Command}
 use Rattle.lifecycle.specs.Commands as command
@@ -37,7 +37,7 @@ Means bundles (script.Delete id) c = c ≡ Some (command.Delete id)
 Means bundles (script.State id) c = c ≡ Some (command.State id)
 Means bundles (script.Kill id signal) c = c ≡ Some (command.Kill id signal)
 Means bundles (script.Call id task arch nr args program) c =
-    (r : Record) × IsRecordOf arch nr args r × (c ≡ Some (command.Call id task r (attached_of program)))
+    (r : Record) × IsRecordOf arch nr args r × (c ≡ Some (command.Call id task r (beside_of program None)))
 
 -- what a line means: no command where it is none of a script
 abbrev pub LineMeans : Bundles → Option script.Command → Option Command → Type 0

@@ -6,7 +6,7 @@ use Rattle.serde_json.specs.Written.{compact_text}
 use Rattle.texts.specs.Lines.{line_feed}
 use Rattle.call_record.specs.Text as verdict
 use Rattle.processes.specs.declared.outcome.Outcome.{Outcome}
-use Rattle.processes.specs.declared.outcome.Outcome.TheVariants.{Done, Failed, Absent, Denied, NoTask}
+use Rattle.processes.specs.declared.outcome.Outcome.TheVariants.{Done, Failed, Absent, Denied, Answered, Declined, NoTask}
 use Rattle.lifecycle.specs.Fault as refusal
 use Rattle.lifecycle.specs.declared.command.Status.{Status}
 use Rattle.lifecycle.specs.declared.command.Status.TheVariants.{Created, Running, Stopped}
@@ -19,6 +19,8 @@ outcome_text (Done n) = codes "done " ++ decimal n
 outcome_text (Failed errno) = codes "failed " ++ decimal errno
 outcome_text Absent = codes "absent"
 outcome_text (Denied v) = codes "denied " ++ verdict.text_of v
+outcome_text (Answered n) = codes "answered " ++ decimal n
+outcome_text (Declined errno) = codes "declined " ++ decimal errno
 outcome_text NoTask = codes "no task"
 
 -- the values of `status` (OCI Runtime Specification, Runtime and Lifecycle, State)

@@ -99,7 +99,13 @@ fn command_of<'a, 'c, 'r: 'c>(
             nr,
             args,
             ..
-        } => Some(Command::Call(id, task, record_of(arch, nr, args), program)),
+        } => Some(Command::Call(
+            id,
+            task,
+            record_of(arch, nr, args),
+            program,
+            None,
+        )),
     }
 }
 

@@ -21,7 +21,7 @@ use texts::{Line, Sink, WriteFault, put, put_label, put_number, write_all};
 fn put_outcome(line: &mut Line, outcome: Outcome)
     requires { array_vec_len line.old ≤ 16 }
     ensures items { line.new.items ≡ line.old.items ++ outcome_text outcome }
-    ensures len { array_vec_len line.new ≤ array_vec_len line.old + 20 }
+    ensures len { array_vec_len line.new ≤ array_vec_len line.old + 30 }
 {
     match outcome {
         Outcome::Done(answer) => {
@@ -36,6 +36,14 @@ fn put_outcome(line: &mut Line, outcome: Outcome)
         Outcome::Denied(word) => {
             put(line, b"denied ");
             put(line, &word.text());
+        }
+        Outcome::Answered(value) => {
+            put(line, b"answered ");
+            put_number(line, value);
+        }
+        Outcome::Declined(errno) => {
+            put(line, b"declined ");
+            put_number(line, errno);
         }
         Outcome::NoTask => put(line, b"no task"),
     }

@@ -1,5 +1,5 @@
 -- Verdicts of the filters on a way.
-use Rattle.std.proofs.Common.{◌≡◌, ℕ, true, Option, Some, None, List, [], ◌∷◌, map, refl, ap, sym, ◌∙◌}
+use Rattle.std.proofs.Common.{◌≡◌, ℕ, true, false, Option, Some, None, List, [], ◌∷◌, map, refl, ap, sym, ◌∙◌}
 use Rattle.std.specs.Prelude.{◌==◌}
 use Rattle.std.specs.List.{list_all}
 use Rattle.std.proofs.lemmas.Bool.{and_parts}
@@ -7,8 +7,9 @@ use Rattle.bpf_insn.specs.declared.instruction.Insn.{Insn}
 use Rattle.bpf_interp.specs.Fixed.{fixed_verdict, is_allow, is_fixed_allow}
 use Rattle.bpf_interp.proofs.Known.{fixed_stays}
 use Rattle.call_record.specs.declared.layout.Record.{Record}
-use Rattle.call_record.specs.Verdict.{action, allow, strictest_of}
+use Rattle.call_record.specs.Verdict.{action, allow, strictest_of, user_notif}
 use Rattle.call_record.proofs.StrictestLemmas.{strictest_of-alone}
+use Rattle.processes.specs.Stores.{notifier}
 use Rattle.processes.specs.Tasks.{Filter, program_judge}
 use Rattle.shared_table.specs.Tree.{Way, all_allow, filters_on}
 
@@ -39,3 +40,12 @@ allowed_at_once r way h = rw (each_allows r way h) refl
 pub ended : (r : Record) (way : Way) (word all : ℕ) → way ≡ [] → strictest_of (word ∷ verdicts_on r way) ≡ all
     → strictest_of (word ∷ allow ∷ []) ≡ all
 ended r way word all none h = strictest_of-alone word ∙ ap (λ (w : Way). strictest_of (word ∷ verdicts_on r w)) (sym none) ∙ h
+
+-- the filter at the front of a way notifies, or those behind it decide
+pub notifier_here : (r : Record) (i : ℕ) (p : List Insn) (way : Way) → (action ((program_judge p).verdict r) == user_notif) ≡ true
+    → notifier r (filters_on ((i, p) ∷ way)) ≡ Some i
+notifier_here r i p way h = rw h refl
+
+pub notifier_behind : (r : Record) (i : ℕ) (p : List Insn) (way : Way) → (action ((program_judge p).verdict r) == user_notif) ≡ false
+    → notifier r (filters_on ((i, p) ∷ way)) ≡ notifier r (filters_on way)
+notifier_behind r i p way h = rw h refl

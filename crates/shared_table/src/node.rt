@@ -1,5 +1,5 @@
 //! One filter of the tree.
-ghost use Rattle.std.specs.Prelude.{◌≡◌, length, unwrap_or};
+ghost use Rattle.std.specs.Prelude.{◌≡◌, ◌==◌, length, unwrap_or};
 ghost use Rattle.bpf_insn.specs.Machine.{verdict_of};
 ghost use Rattle.call_record.specs.Record.{words};
 
@@ -25,6 +25,7 @@ pub(crate) struct Node {
 }
 
 impl Node {
+    ghost use Rattle.call_record.specs.Verdict.{action, user_notif};
     ghost use Rattle.processes.specs.Tasks.{program_judge};
 
     /// The verdict that the filter gives.
@@ -32,5 +33,12 @@ impl Node {
         ensures { result ≡ (program_judge self.now.program).verdict rec.now }
     {
         verdict(&self.program.as_accepted(), rec)
+    }
+
+    /// Whether its verdict notifies a listener.
+    pub(crate) fn notifies(&self, rec: &Record) -> bool
+        ensures { result ≡ (action ((program_judge self.now.program).verdict rec.now) == user_notif) }
+    {
+        self.verdict(rec).action() == Word::USER_NOTIF
     }
 }

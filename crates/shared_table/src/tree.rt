@@ -230,6 +230,20 @@ impl Store for Tree {
         self.walked(handle.at, rec)
     }
 
+    fn notifier(&self, handle: &Place, rec: &Record) -> Option<u32> {
+        let mut next = Some(handle.at);
+        'down: while let Some(at) = next {
+            let Some(node) = self.node_at(at) else {
+                return None;
+            };
+            if node.notifies(rec) {
+                return Some(at);
+            }
+            next = node.below;
+        }
+        None
+    }
+
     fn is_oldest_part(&self, older: &Place, newer: &Place) -> bool {
         let depth = self.len(older);
         let mut next = Some(newer.at);

@@ -1,5 +1,5 @@
 -- Which tasks the code means, and what it gives them.
-use Rattle.std.specs.Prelude.{◌&&◌, Bool, true, not, if◌then◌else◌, List, [], map}
+use Rattle.std.specs.Prelude.{ℕ, ◌&&◌, Bool, true, not, if◌then◌else◌, List, [], Option, map}
 use Rattle.processes.specs.declared.task.Task.{Task}
 use Rattle.processes.specs.declared.tasks.Which.{Which}
 use Rattle.processes.specs.declared.tasks.Which.TheVariants as which
@@ -21,6 +21,6 @@ is_meant which.All t = true
 abbrev pub is_taker : Which → Process → Bool
 is_taker w t = is_meant w t && is_live t
 
--- these filters for the tasks that meet a test
-abbrev pub given : (Process → Bool) → List Filter → List Process → List Process
-given test filters tasks = map (λ u. if test u then record u { filters = filters } else u) tasks
+-- these filters, and which of them has a listener, for the tasks that meet a test
+abbrev pub given : (Process → Bool) → Option ℕ → List Filter → List Process → List Process
+given test listener filters tasks = map (λ u. if test u then record u { filters = filters; listener = listener } else u) tasks

@@ -38,10 +38,10 @@ loop-task-preserved g c =
                 ++ got.0 ∷ []) = subst (All (λ (handle : g.row.H.Denot). seen handle
                 ≡ filters)) got.1 (c.loop-task.invariant.same seen filters all) in
                 let these : seen got.0 ≡ filters = last (λ handle. seen handle ≡ filters) c.give.new.handles.items got.0 whole in
-                let now : process_of seen y ≡ (if is_taker c.args.takers (process_of seen (get_or xs i d)) then record (process_of seen (get_or xs i d)) { filters = filters } else process_of seen (get_or xs i d)) =
+                let now : process_of seen y ≡ (if is_taker c.args.takers (process_of seen (get_or xs i d)) then record (process_of seen (get_or xs i d)) { filters = filters; listener = c.args.listener } else process_of seen (get_or xs i d)) =
                 rw (taker_bare seen c.args.takers (get_or xs i d), h) (got.2 seen
-                ∙ ap (λ (fs : List Filter). record (process_of seen (get_or xs i d)) { filters = fs }) these) in
-                rw add-one (map_more (process_of seen) (λ (u : Process). if is_taker c.args.takers u then record u { filters = filters } else u) c.args.tasks.now xs i y d
+                ∙ ap (λ (fs : List Filter). record (process_of seen (get_or xs i d)) { filters = fs; listener = c.args.listener }) these) in
+                rw add-one (map_more (process_of seen) (λ (u : Process). if is_taker c.args.takers u then record u { filters = filters; listener = c.args.listener } else u) c.args.tasks.now xs i y d
                 (c.loop-task.invariant.seen seen filters all) (omega arith) now);
           }
       | inr h ↦
@@ -53,14 +53,14 @@ loop-task-preserved g c =
             same = λ seen filters all. subst (All (λ (handle : g.row.H.Denot). seen handle
                 ≡ filters)) (sym left.0) (c.loop-task.invariant.same seen filters all);
             seen = λ seen filters all.
-                let now : process_of seen y ≡ (if is_taker c.args.takers (process_of seen (get_or xs i d)) then record (process_of seen (get_or xs i d)) { filters = filters } else process_of seen (get_or xs i d)) =
+                let now : process_of seen y ≡ (if is_taker c.args.takers (process_of seen (get_or xs i d)) then record (process_of seen (get_or xs i d)) { filters = filters; listener = c.args.listener } else process_of seen (get_or xs i d)) =
                 rw (taker_bare seen c.args.takers (get_or xs i d), h) (left.1 seen) in
-                rw add-one (map_more (process_of seen) (λ (u : Process). if is_taker c.args.takers u then record u { filters = filters } else u) c.args.tasks.now xs i y d
+                rw add-one (map_more (process_of seen) (λ (u : Process). if is_taker c.args.takers u then record u { filters = filters; listener = c.args.listener } else u) c.args.tasks.now xs i y d
                 (c.loop-task.invariant.seen seen filters all) (omega arith) now);
           }
     ]
 
 pub returns : goal.returns
 returns g c = λ seen filters all.
-    map_whole (process_of seen) (λ (u : Process). if is_taker c.args.takers u then record u { filters = filters } else u) c.args.tasks.now c.loop-task.tasks c.loop-task.task-index
+    map_whole (process_of seen) (λ (u : Process). if is_taker c.args.takers u then record u { filters = filters; listener = c.args.listener } else u) c.args.tasks.now c.loop-task.tasks c.loop-task.task-index
     (c.loop-task.invariant.seen seen filters all) (omega arith)

@@ -12,6 +12,6 @@ invariant-loop-task g l = record {
   same : (seen : g.row.H.Denot → List Filter) (filters : List Filter) → All (λ handle. seen handle ≡ filters) l.initial.handles.items
       → All (λ handle. seen handle ≡ filters) l.handles.items;
   seen : (seen : g.row.H.Denot → List Filter) (filters : List Filter) → All (λ handle. seen handle ≡ filters) l.initial.handles.items
-      → all_of seen l.tasks ≡ given (is_taker l.takers) filters (all_of seen (take l.task-index l.fn.tasks))
+      → all_of seen l.tasks ≡ given (is_taker l.takers) l.listener filters (all_of seen (take l.task-index l.fn.tasks))
       ++ all_of seen (drop l.task-index l.fn.tasks);
 }

@@ -1,6 +1,6 @@
 use Rattle.std.proofs.Common.{◌≡◌, true, None, Some, sym, ap, ◌∙◌, refl}
 use Rattle.std.specs.Option.{option_map}
-use Rattle.processes.specs.Attached.{attached_of}
+use Rattle.processes.specs.Attached.{beside_of}
 use Rattle.processes.specs.First.{by_program}
 use Rattle.processes.specs.Views.{SetAt, can_grow_in, present_in}
 use Rattle.processes.specs.declared.outcome.Outcome.{Outcome}
@@ -23,7 +23,7 @@ returns-in_default-clause-step g c =
     let k = g.K.Kernel.processes c.args.self.now.kernel in
     let id = c.args.id.now in
     let es = listed c.args.self.now.entries in
-    let given = attached_of (option_map (λ a. a.now) c.args.attached) in
+    let given = beside_of (option_map (λ a. a.now) c.args.attached) c.args.response in
     unchanged by_program (Call id c.args.task c.args.rec.now given) (world_from k es) None (Refused NoContainer) (not_there k id es c.in_default.ensures.none) refl
 
 pub returns-in-Made-clause-step : goal.returns-in-Made-clause-step
@@ -32,7 +32,7 @@ returns-in-Made-clause-step g c =
     let k = g.K.Kernel.processes c.args.self.now.kernel in
     let id = c.args.id.now in
     let es = listed c.args.self.now.entries in
-    let given = attached_of (option_map (λ a. a.now) c.args.attached) in
+    let given = beside_of (option_map (λ a. a.now) c.args.attached) c.args.response in
     let e = c.in-Some.field-0.entry in
     let container = container_of e (k id) in
     unchanged by_program (Call id c.args.task c.args.rec.now given) (world_from k es) (Some container) (Presented NoTask) (there k id es e c.in-Some.ensures.some.kept)
@@ -44,7 +44,7 @@ returns-in-Ended-clause-step g c =
     let k = g.K.Kernel.processes c.args.self.now.kernel in
     let id = c.args.id.now in
     let es = listed c.args.self.now.entries in
-    let given = attached_of (option_map (λ a. a.now) c.args.attached) in
+    let given = beside_of (option_map (λ a. a.now) c.args.attached) c.args.response in
     let e = c.in-Some.field-0.entry in
     let container = container_of e (k id) in
     unchanged by_program (Call id c.args.task c.args.rec.now given) (world_from k es) (Some container) (Presented NoTask) (there k id es e c.in-Some.ensures.some.kept)
@@ -54,7 +54,7 @@ pub invariant_of-self-clause-sound : goal.invariant_of-self-clause-sound
 invariant_of-self-clause-sound g c =
     let k = g.K.Kernel.processes in
     let named = c.in-Some.field-0.name in
-    let given = attached_of (option_map (λ a. a.now) c.args.attached) in
+    let given = beside_of (option_map (λ a. a.now) c.args.attached) c.args.response in
     let before = k c.args.self.now.kernel named in
     sound_either c.present.result (k c.args.self.now.kernel) (k c.present.new.self) named (present_in c.args.task c.args.rec.now given before).1
     c.present.ensures.ok c.present.ensures.err (present_sound c.args.task c.args.rec.now given before (c.args.self.now.sound named)) c.args.self.now.sound
@@ -67,7 +67,7 @@ returns-in_ok-outcome-in-Started-clause-step g c =
     let es = listed c.args.self.now.entries in
     let task = c.args.task in
     let r = c.args.rec.now in
-    let given = attached_of (option_map (λ a. a.now) c.args.attached) in
+    let given = beside_of (option_map (λ a. a.now) c.args.attached) c.args.response in
     let found = c.in-Some.ensures.some in
     let e = c.in-Some.field-0.entry in
     let old = k c.args.self.now.kernel in
@@ -97,7 +97,7 @@ returns-in_err-outcome-in-Started-clause-growth g c =
     let es = listed c.args.self.now.entries in
     let task = c.args.task in
     let r = c.args.rec.now in
-    let given = attached_of (option_map (λ a. a.now) c.args.attached) in
+    let given = beside_of (option_map (λ a. a.now) c.args.attached) c.args.response in
     let found = c.in-Some.ensures.some in
     let e = c.in-Some.field-0.entry in
     let grows : can_grow_in task r given (k id) ≡ true = ap (λ q. can_grow_in task r given (k q)) (sym found.name)

@@ -17,6 +17,7 @@ invariant_of-self-2 g c =
       images = 0;
       end = None;
       filters = seen c.args.filters;
+      listener = c.args.listener;
     } in
     let e : all_of seen c.push.new.self.items ≡ all_of seen old.tasks.items ++ u ∷ [] = ap (all_of seen) c.in_ok-push.ensures.items
     ∙ map-append (process_of seen) old.tasks.items _ in

@@ -39,15 +39,15 @@ invariant_of-self-2 g c =
     ∷ seen c.index-caller.result.now.filters in
     let whole : all_of later old.tasks.items
     ≡ all_of seen old.tasks.items = seen_same seen later old.tasks.items c.with_newer.ensures.others old.rooted in
-    let after : all_of later c.give_all.new.tasks.items ≡ given (is_taker c.args.takers) fs (all_of seen old.tasks.items) =
-    c.give_all.ensures later fs c.in_ok-handles.ensures.handles ∙ ap (given (is_taker c.args.takers) fs) whole in
+    let after : all_of later c.give_all.new.tasks.items ≡ given (is_taker c.args.takers) c.listener_after-listener.result fs (all_of seen old.tasks.items) =
+    c.give_all.ensures later fs c.in_ok-handles.ensures.handles ∙ ap (given (is_taker c.args.takers) c.listener_after-listener.result fs) whole in
     record {
-      ordered = given_kept (is_taker c.args.takers) fs (all_of seen old.tasks.items) (all_of later c.give_all.new.tasks.items) old.made after old.ordered;
-      rooted = given_rooted (is_taker c.args.takers) fs (all_of seen old.tasks.items) (all_of later c.give_all.new.tasks.items) after refl old.rooted;
+      ordered = given_kept (is_taker c.args.takers) c.listener_after-listener.result fs (all_of seen old.tasks.items) (all_of later c.give_all.new.tasks.items) old.made after old.ordered;
+      rooted = given_rooted (is_taker c.args.takers) c.listener_after-listener.result fs (all_of seen old.tasks.items) (all_of later c.give_all.new.tasks.items) after refl old.rooted;
     }
 
 pub returns-clause-ok : goal.returns-clause-ok
-returns-clause-ok g c = λ for_all t h same.
+returns-clause-ok g c = λ t h same.
     let old = c.args.self.now in
     let seen = g.S.Store.filters_of old.store in
     let later = g.S.Store.filters_of c.with_newer.new.self in
@@ -56,10 +56,14 @@ returns-clause-ok g c = λ for_all t h same.
     let fs : List Filter = program_filter (g.S.Store.loads_of old.store + 1) (accepted_insns c.args.program.now) ∷ seen t.filters in
     let whole : all_of later old.tasks.items
     ≡ all_of seen old.tasks.items = seen_same seen later old.tasks.items c.with_newer.ensures.others old.rooted in
-    let after : all_of later c.give_all.new.tasks.items ≡ given (is_taker c.args.takers) fs (all_of seen old.tasks.items) =
-    c.give_all.ensures later fs (rw caller at c.in_ok-handles.ensures.handles) ∙ ap (given (is_taker c.args.takers) fs) whole in
+    let after : all_of later c.give_all.new.tasks.items ≡ given (is_taker c.args.takers) c.listener_after-listener.result fs (all_of seen old.tasks.items) =
+    c.give_all.ensures later fs (rw caller at c.in_ok-handles.ensures.handles) ∙ ap (given (is_taker c.args.takers) c.listener_after-listener.result fs) whole in
     rw (
-      loaded_by seen for_all (accepted_insns c.args.program.now) t (all_of seen old.tasks.items) (all_of later c.give_all.new.tasks.items) (is_taker c.args.takers)
-          (g.S.Store.loads_of old.store + 1) after same,
+      loaded_by seen c.args.how.for_all (accepted_insns c.args.program.now) t (all_of seen old.tasks.items) (all_of later c.give_all.new.tasks.items) (is_taker c.args.takers)
+          (g.S.Store.loads_of old.store + 1) c.listener_after-listener.result after same,
       c.in_ok-handles.ensures.loads,
+      c.load_answer.ensures,
+      c.listener_after-listener.ensures,
+      c.loads-load.ensures,
+      caller,
     ) refl
