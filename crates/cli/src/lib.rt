@@ -18,6 +18,7 @@ mod fault;
 mod files;
 mod flattening;
 mod forms;
+mod grouping;
 mod law;
 mod logs;
 mod manual;
