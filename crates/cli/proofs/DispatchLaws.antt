@@ -19,10 +19,11 @@ use Rattle.maker.specs.Certified.{Certifies}
 use Rattle.maker.specs.Exported.{Exports}
 use Rattle.maker.specs.Finding.{WritesFinding}
 use Rattle.cli.specs.declared.stops.Stop.{Stop}
-use Rattle.cli.specs.declared.stops.Stop.TheVariants.{Usage}
+use Rattle.cli.specs.declared.stops.Stop.TheVariants.{OutOfMemory, Usage}
 use Rattle.cli.specs.Dispatch.{AnswersAdapt, AnswersAll, AnswersBehind, AnswersCertify, AnswersCheck, AnswersExport, AnswersManual, AnswersReplay}
 use Rattle.cli.specs.Dispatch.{AnswersAllBehind, AnswersCombined, AnswersStack, ExportsFor}
-use Rattle.cli.specs.Dispatch.{AnswersTold, AnswersVerdict, ExplainsAllBehind, StopsAtWords}
+use Rattle.cli.specs.Dispatch.{AnswersTold, AnswersVerdict, ExplainsAllBehind, StopsAtGroups, StopsAtWords}
+use Rattle.cli.specs.Grouped.{WithGroups, groups_in, others_in}
 use Rattle.cli.specs.Adapted.{AskNothing, IsMadeAs}
 use Rattle.cli.specs.Combined.{TellsCombined, TellsStack}
 use Rattle.cli.specs.Written.{WritesMade}
@@ -31,12 +32,12 @@ use Rattle.cli.specs.declared.adapting.Both.{Both}
 use Rattle.cli.specs.Dispatch.{WritesTold, outcome_by, outcome_of}
 use Rattle.texts.specs.Sink.{Wrote}
 use Rattle.cli.specs.Dispatch.{any_call, explained_as, ExplainsBehind, FirstUnread, HaveBytes, StopsAt}
-use Rattle.cli.specs.inner.Telling.{IsAdaptedOf, IsBundleOf, IsCombinedOf, IsInForm, IsManualOf, IsReplayOf, IsStackOf, IsToldOf, TellsOn, TellsText, told_in}
+use Rattle.cli.specs.inner.Telling.{IsAdaptedOf, IsBundleOf, IsCombinedOf, IsInForm, IsManualOf, IsReplayOf, IsStackOf, IsToldOf, IsWithGroups, TellsOn, TellsText, told_in}
 use Rattle.together.specs.declared.way.Way.{Way}
 use Rattle.cli.specs.Explained.{TellsAllBehind, TellsBehind}
 use Rattle.cli.specs.Files.{Folder, HasBundle, HasBytes, HasEnough, HasEnoughFilter, HasFilter}
 use Rattle.cli.specs.Running.{told_line}
-use Rattle.cli.proofs.FormLaws.{stopped_in, told_in_form}
+use Rattle.cli.proofs.FormLaws.{stopped_grown, stopped_in, told_in_form, told_memory, told_with_groups}
 use Rattle.cli.proofs.TurnLaws.{cut_at}
 use Rattle.cli.proofs.FileLaws.{all_behind_of_file, tells_all_behind_of_file}
 use Rattle.cli.proofs.FileLaws.{behind_of_file, certified_of_file, check_of_file, tells_all_of_file, tells_of_file, verdict_of_files}
@@ -287,18 +288,36 @@ module _ {O : Type 0} (held : O → Option (List ℕ)) (failures : O → Failure
   pub answers_adapted : (native : Arch) (config : List ℕ) (words : List (List ℕ)) (result : Result Bool Stop) (both : Result Both Stop)
       → IsAdaptedOf folder native config words (told_in both) → TellsOn held failures old new (told_in both) result
       → AnswersAdapt held failures folder old new native config words result
-  answers_adapted native config words result both is h = (is.others, is.as_bundle, is.named, by (told_in both) is.made is.is_made is.written h) where
-    Writes : List ℕ → Told → Type 0
-    Writes text = WritesMade native is.as_bundle (OfArguments (IsMadeAs native text) is.others)
+  answers_adapted native config words result both is h = (is.others, is.as_bundle, is.named, by (told_in both) is.grown is.made is.is_made is.grows is.written h) where
+    groups : List (List ℕ)
+    groups = groups_in is.others
 
-    by : (told made : Result Told Stop) → IsBundleOf folder native config is.others made → IsInForm native is.as_bundle made told
-        → TellsOn held failures old new told result
-        → (AskNothing is.others × StopsAtWords held failures folder old new result)
-        ⊎ AnswersTold held failures folder old new (config ∷ []) (of_one Writes) result
-    by told made (inl none) written h = inl (none.0, stopped_at result told (stopped_in native is.as_bundle made told Usage none.1 written) h)
-    by told made (inr read) written h =
-        inr (answers_told held failures folder (config ∷ []) (of_one Writes) old new result told
-        (told_in_form native is.as_bundle folder (config ∷ []) (λ text. OfArguments (IsMadeAs native text) is.others) made told read written) h)
+    Is : List ℕ → Told → Type 0
+    Is text = OfArguments (IsMadeAs native text) (others_in is.others)
+
+    Writes : List ℕ → Told → Type 0
+    Writes text = WritesMade native is.as_bundle (WithGroups native groups (Is text))
+
+    by : (told grown made : Result Told Stop) → IsBundleOf folder native config (others_in is.others) made
+        → IsWithGroups native groups made grown → IsInForm native is.as_bundle grown told → TellsOn held failures old new told result
+        → StopsAtGroups held failures folder old new is.others result
+        ⊎ ((AskNothing (others_in is.others) × StopsAtWords held failures folder old new result)
+        ⊎ AnswersTold held failures folder old new (config ∷ []) (of_one Writes) result)
+    by told grown made bundle (inl unknown) written h =
+        inl (unknown.0, stopped_at result told (stopped_in native is.as_bundle grown told Usage unknown.1 written) h)
+    by told grown made bundle (inr (inl memory)) written h =
+        inr (inr (answers_told held failures folder (config ∷ []) (of_one Writes) old new result told
+        (told_memory folder (config ∷ []) (of_one Writes) told (stopped_in native is.as_bundle grown told OutOfMemory memory written)) h))
+    by told grown made (inl none) (inr (inr grows)) written h =
+        inr (inl (
+          none.0,
+          stopped_at result told
+              (stopped_in native is.as_bundle grown told Usage (stopped_grown native groups made grown Usage none.1 grows.1) written) h,
+        ))
+    by told grown made (inr read) (inr (inr grows)) written h =
+        inr (inr (answers_told held failures folder (config ∷ []) (of_one Writes) old new result told
+        (told_in_form native is.as_bundle folder (config ∷ []) (λ text. WithGroups native groups (Is text)) grown told
+        (told_with_groups native groups folder (config ∷ []) Is made grown read grows.1) written) h))
 
   pub answers_combined : (native : Arch) (way : Way) (words : List (List ℕ)) (result : Result Bool Stop) (both : Result Both Stop)
       → IsCombinedOf folder native way words (told_in both) → TellsOn held failures old new (told_in both) result

@@ -9,7 +9,8 @@ use Rattle.cli.specs.Dispatch.{FirstUnread}
 use Rattle.cli.specs.Files.{Folder}
 use Rattle.cli.specs.Told.{of_one}
 use Rattle.cli.specs.Written.{WritesMade}
-use Rattle.cli.specs.inner.Telling.{IsInForm, IsToldOf}
+use Rattle.cli.specs.Grouped.{WithGroups}
+use Rattle.cli.specs.inner.Telling.{GrowsTold, IsInForm, IsToldOf}
 
 -- what stops before is told as it is
 pub stopped_in : (native : Arch) (as_bundle : Bool) (made told : Result Told Stop) (stop : Stop) → made ≡ Err stop
@@ -45,3 +46,26 @@ told_each_in_form native as_bundle folder names Is (Ok made) (Err stop) read e =
     subst (λ s. FirstUnread folder names s) (sym e) (unread_memory folder names)
 told_each_in_form native as_bundle folder names Is (Err stop) told at e =
     subst (λ t. IsToldOf folder names (λ texts. WritesMade native as_bundle (Is texts)) t) (sym e) at
+
+-- what stops before, or for want of memory
+pub stopped_grown : (native : Arch) (groups : List (List ℕ)) (made grown : Result Told Stop) (stop : Stop) → made ≡ Err stop
+    → GrowsTold native groups made grown → grown ≡ Err stop
+stopped_grown native groups made grown stop e h = subst (λ m. GrowsTold native groups m grown) e h
+
+pub told_memory : (folder : Option Folder) (names : List (List ℕ)) (Is : List (List ℕ) → Told → Type 0) (told : Result Told Stop)
+    → told ≡ Err OutOfMemory → IsToldOf folder names Is told
+told_memory folder names Is told e = subst (λ t. IsToldOf folder names Is t) (sym e) (unread_memory folder names)
+
+-- what is made of the text of one file is told with the calls of groups
+pub told_with_groups : (native : Arch) (groups : List (List ℕ)) (folder : Option Folder) (names : List (List ℕ))
+    (Is : List ℕ → Told → Type 0) (made grown : Result Told Stop) → IsToldOf folder names (of_one Is) made
+    → GrowsTold native groups made grown → IsToldOf folder names (of_one (λ text. WithGroups native groups (Is text))) grown
+told_with_groups native groups folder names Is (Ok made) (Ok told) (texts, read, is) grows = (texts, read, by texts is) where
+  by : (texts : List (List ℕ)) → of_one Is texts made → of_one (λ text. WithGroups native groups (Is text)) texts told
+  by [] is = absurd is
+  by (text ∷ []) is = (made, is, grows)
+  by (text ∷ other ∷ more) is = absurd is
+told_with_groups native groups folder names Is (Ok made) (Err stop) read e =
+    subst (λ s. FirstUnread folder names s) (sym e) (unread_memory folder names)
+told_with_groups native groups folder names Is (Err stop) grown at e =
+    subst (λ t. IsToldOf folder names (of_one (λ text. WithGroups native groups (Is text))) t) (sym e) at

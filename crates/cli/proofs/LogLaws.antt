@@ -1,5 +1,5 @@
 -- Logs by their names and their texts, and the words that name them.
-use Rattle.std.proofs.Common.{◌≡◌, ℕ, ◌+◌, ◌<◌, List, [], ◌∷◌, ◌++◌, Vec, Global, ap, append-nil, arith, drop, get_or, inl, inr, length, map, refl, subst, suc, sym, take, ◌∙◌}
+use Rattle.std.proofs.Common.{◌≡◌, ◌⊎◌, ℕ, ◌+◌, ◌<◌, List, [], ◌∷◌, ◌++◌, Vec, Global, ap, append-nil, arith, drop, get_or, inl, inr, length, map, refl, subst, suc, sym, take, ◌∙◌}
 use Rattle.std.proofs.lemmas.List.{get_or_default, length-map, length-take-le, map-append, take_more}
 use Rattle.std.specs.List.{zip}
 use Rattle.std.specs.Io.KnownBytes.{Consumes, IsAtEnd}
@@ -20,12 +20,14 @@ use Rattle.strace_logs.specs.Taken.{HaveShown}
 use Rattle.cli.specs.declared.stops.Stop.{Stop}
 use Rattle.cli.specs.declared.stops.Stop.TheVariants.{Usage, CannotRead, Read, Write, OutOfMemory, Refused}
 use Rattle.cli.specs.Dispatch.{AnswersBoth, AnswersFrom, AnswersLearn, AnswersLogs, AnswersNamed, AnswersWidened, FirstUnread, HaveBytes, StopsAtLog}
+use Rattle.cli.specs.Dispatch.{StopsAtGroups, StopsForMemory}
+use Rattle.cli.specs.Grouped.{groups_in, others_in}
 use Rattle.cli.specs.Widened.{from_in, rest_of}
 use Rattle.cli.specs.Files.{Folder, HasBundle, HasBytes, IsOpened}
 use Rattle.cli.specs.Told.{IsReplayed}
-use Rattle.cli.specs.inner.Telling.{IsInForm, IsLearnedBundleOf, IsLearnedBy, IsLearnedFrom, IsLearnedOf, IsToldOf, IsWidenedFrom, IsWidenedOf, ShowEach, ShowsMore, StopsAtName, TellsOn, told_in}
+use Rattle.cli.specs.inner.Telling.{GrowsTold, IsGrownLearnedOf, IsInForm, IsLearnedBundleOf, IsLearnedBy, IsLearnedFrom, IsLearnedOf, IsToldOf, IsWidenedFrom, IsWidenedOf, IsWithGroups, ShowEach, ShowsMore, StopsAtName, TellsOn, told_in}
 use Rattle.cli.proofs.DispatchLaws.{behind, now_of, read_on}
-use Rattle.cli.proofs.FormLaws.{stopped_in}
+use Rattle.cli.proofs.FormLaws.{stopped_grown, stopped_in}
 use Rattle.cli.proofs.TurnLaws.{cut_at}
 
 abbrev pub bytes_of : Vec ℕ Global → List ℕ
@@ -158,64 +160,99 @@ stops_at_log folder native ns i d lt shown each Refused at = absurd at
 -- what is told of them is written
 module _ {O : Type 0} (held : O → Option (List ℕ)) (failures : O → Failures) (folder : Option Folder) (old new : O) (native : Arch)
     (result : Result Bool Stop) where
-  answers_logs : (as_bundle : Bool) (logs : List (List ℕ)) (runtime : Option Runtime) (otherwise : Otherwise) (made told : Result Told Stop)
-      → IsLearnedFrom folder native logs runtime otherwise made → IsInForm native as_bundle made told
-      → TellsOn held failures old new told result → AnswersLogs held failures folder old new native as_bundle logs runtime otherwise result
-  answers_logs as_bundle logs runtime otherwise (Ok made) (Ok told) is form h =
-      inr (is.0, told, is.1, record { made = made; is = is.2; written = form }, h)
-  answers_logs as_bundle logs runtime otherwise (Ok made) (Err stop) is form h =
+  answers_logs : (as_bundle : Bool) (groups logs : List (List ℕ)) (runtime : Option Runtime) (otherwise : Otherwise)
+      (made grown told : Result Told Stop) → IsLearnedFrom folder native logs runtime otherwise made → GrowsTold native groups made grown
+      → IsInForm native as_bundle grown told → TellsOn held failures old new told result
+      → AnswersLogs held failures folder old new native as_bundle groups logs runtime otherwise result
+  answers_logs as_bundle groups logs runtime otherwise (Ok made) (Ok grown) (Ok told) is grows form h =
+      inr (is.0, told, is.1, record { made = grown; is = (made, is.2, grows); written = form }, h)
+  answers_logs as_bundle groups logs runtime otherwise (Ok made) (Ok grown) (Err stop) is grows form h =
       inl (stop, subst (λ s. StopsAtLog folder logs s) (sym form) tt, h.0, h.1)
-  answers_logs as_bundle logs runtime otherwise (Err stop) told at form h =
-      let stopped = subst (λ t. TellsOn held failures old new t result) form h in inl (stop, at, stopped.0, stopped.1)
+  answers_logs as_bundle groups logs runtime otherwise (Ok made) (Err stop) told is grows form h =
+      let stopped = subst (λ t. TellsOn held failures old new t result) form h in
+      inl (stop, subst (λ s. StopsAtLog folder logs s) (sym grows) tt, stopped.0, stopped.1)
+  answers_logs as_bundle groups logs runtime otherwise (Err stop) grown told at grows form h =
+      let stopped = subst (λ t. TellsOn held failures old new t result) (stopped_in native as_bundle grown told stop grows form) h in
+      inl (stop, at, stopped.0, stopped.1)
 
-  answers_named : (as_bundle : Bool) (words : List (List ℕ)) (made told : Result Told Stop) → IsLearnedBundleOf folder native words made
-      → IsInForm native as_bundle made told → TellsOn held failures old new told result
-      → AnswersNamed held failures folder old new native as_bundle words result
-  answers_named as_bundle words made told (inl is) form h =
-      inl (subst (λ t. TellsOn held failures old new t result) (stopped_in native as_bundle made told Usage is form) h)
-  answers_named as_bundle words made told (inr (inl is)) form h =
-      inr (inl (subst (λ t. TellsOn held failures old new t result) (stopped_in native as_bundle made told OutOfMemory is form) h))
-  answers_named as_bundle words made told (inr (inr (logs, runtime, otherwise, asks, is))) form h =
-      inr (inr (logs, runtime, otherwise, asks, answers_logs as_bundle logs runtime otherwise made told is form h))
+  answers_named : (as_bundle : Bool) (groups words : List (List ℕ)) (made grown told : Result Told Stop)
+      → IsLearnedBundleOf folder native words made → GrowsTold native groups made grown → IsInForm native as_bundle grown told
+      → TellsOn held failures old new told result → AnswersNamed held failures folder old new native as_bundle groups words result
+  answers_named as_bundle groups words made grown told (inl is) grows form h =
+      inl (subst (λ t. TellsOn held failures old new t result)
+      (stopped_in native as_bundle grown told Usage (stopped_grown native groups made grown Usage is grows) form) h)
+  answers_named as_bundle groups words made grown told (inr (inl is)) grows form h =
+      inr (inl (subst (λ t. TellsOn held failures old new t result)
+      (stopped_in native as_bundle grown told OutOfMemory (stopped_grown native groups made grown OutOfMemory is grows) form) h))
+  answers_named as_bundle groups words made grown told (inr (inr (logs, runtime, otherwise, asks, is))) grows form h =
+      inr (inr (logs, runtime, otherwise, asks, answers_logs as_bundle groups logs runtime otherwise made grown told is grows form h))
 
-  answers_both : (as_bundle : Bool) (profile : List ℕ) (logs : List (List ℕ)) (runtime : Option Runtime) (otherwise : Otherwise)
-      (made told : Result Told Stop) → IsWidenedFrom folder native profile logs runtime otherwise made → IsInForm native as_bundle made told
-      → TellsOn held failures old new told result
-      → AnswersBoth held failures folder old new native as_bundle profile logs runtime otherwise result
-  answers_both as_bundle profile logs runtime otherwise (Ok made) (Ok told) (file, texts, of_file, of_logs, is) form h =
-      inr (file, texts, told, of_file, of_logs, record { made = made; is = is; written = form }, h)
-  answers_both as_bundle profile logs runtime otherwise (Ok made) (Err stop) is form h =
+  answers_both : (as_bundle : Bool) (groups : List (List ℕ)) (profile : List ℕ) (logs : List (List ℕ)) (runtime : Option Runtime)
+      (otherwise : Otherwise) (made grown told : Result Told Stop) → IsWidenedFrom folder native profile logs runtime otherwise made
+      → GrowsTold native groups made grown → IsInForm native as_bundle grown told → TellsOn held failures old new told result
+      → AnswersBoth held failures folder old new native as_bundle groups profile logs runtime otherwise result
+  answers_both as_bundle groups profile logs runtime otherwise (Ok made) (Ok grown) (Ok told) (file, texts, of_file, of_logs, is) grows form h =
+      inr (file, texts, told, of_file, of_logs, record { made = grown; is = (made, is, grows); written = form }, h)
+  answers_both as_bundle groups profile logs runtime otherwise (Ok made) (Ok grown) (Err stop) is grows form h =
       inl (stop, inr (subst (λ s. StopsAtLog folder logs s) (sym form) tt), h.0, h.1)
-  answers_both as_bundle profile logs runtime otherwise (Err stop) told at form h =
-      let stopped = subst (λ t. TellsOn held failures old new t result) form h in inl (stop, at, stopped.0, stopped.1)
+  answers_both as_bundle groups profile logs runtime otherwise (Ok made) (Err stop) told is grows form h =
+      let stopped = subst (λ t. TellsOn held failures old new t result) form h in
+      inl (stop, inr (subst (λ s. StopsAtLog folder logs s) (sym grows) tt), stopped.0, stopped.1)
+  answers_both as_bundle groups profile logs runtime otherwise (Err stop) grown told at grows form h =
+      let stopped = subst (λ t. TellsOn held failures old new t result) (stopped_in native as_bundle grown told stop grows form) h in
+      inl (stop, at, stopped.0, stopped.1)
 
-  answers_widened : (as_bundle : Bool) (profile : List ℕ) (words : List (List ℕ)) (made told : Result Told Stop)
-      → IsWidenedOf folder native profile words made → IsInForm native as_bundle made told → TellsOn held failures old new told result
-      → AnswersWidened held failures folder old new native as_bundle profile words result
-  answers_widened as_bundle profile words made told (inl is) form h =
-      inl (subst (λ t. TellsOn held failures old new t result) (stopped_in native as_bundle made told Usage is form) h)
-  answers_widened as_bundle profile words made told (inr (inl is)) form h =
-      inr (inl (subst (λ t. TellsOn held failures old new t result) (stopped_in native as_bundle made told OutOfMemory is form) h))
-  answers_widened as_bundle profile words made told (inr (inr (logs, runtime, otherwise, asks, is))) form h =
+  answers_widened : (as_bundle : Bool) (groups : List (List ℕ)) (profile : List ℕ) (words : List (List ℕ)) (made grown told : Result Told Stop)
+      → IsWidenedOf folder native profile words made → GrowsTold native groups made grown → IsInForm native as_bundle grown told
+      → TellsOn held failures old new told result
+      → AnswersWidened held failures folder old new native as_bundle groups profile words result
+  answers_widened as_bundle groups profile words made grown told (inl is) grows form h =
+      inl (subst (λ t. TellsOn held failures old new t result)
+      (stopped_in native as_bundle grown told Usage (stopped_grown native groups made grown Usage is grows) form) h)
+  answers_widened as_bundle groups profile words made grown told (inr (inl is)) grows form h =
+      inr (inl (subst (λ t. TellsOn held failures old new t result)
+      (stopped_in native as_bundle grown told OutOfMemory (stopped_grown native groups made grown OutOfMemory is grows) form) h))
+  answers_widened as_bundle groups profile words made grown told (inr (inr (logs, runtime, otherwise, asks, is))) grows form h =
       inr (inr (
         logs,
         runtime,
         otherwise,
         asks,
-        answers_both as_bundle profile logs runtime (rest_of words otherwise) made told is form h,
+        answers_both as_bundle groups profile logs runtime (rest_of words otherwise) made grown told is grows form h,
       ))
 
-  answers_from : (as_bundle : Bool) (from : Option (List ℕ × List (List ℕ))) (words : List (List ℕ)) (made told : Result Told Stop)
-      → IsLearnedBy folder native from words made → IsInForm native as_bundle made told → TellsOn held failures old new told result
-      → AnswersFrom held failures folder old new native as_bundle from words result
-  answers_from as_bundle (Some from) words made told is form h = answers_widened as_bundle from.0 from.1 made told is form h
-  answers_from as_bundle None words made told is form h = answers_named as_bundle words made told is form h
+  answers_from : (as_bundle : Bool) (groups : List (List ℕ)) (from : Option (List ℕ × List (List ℕ))) (words : List (List ℕ))
+      (made grown told : Result Told Stop) → IsLearnedBy folder native from words made → GrowsTold native groups made grown
+      → IsInForm native as_bundle grown told → TellsOn held failures old new told result
+      → AnswersFrom held failures folder old new native as_bundle groups from words result
+  answers_from as_bundle groups (Some from) words made grown told is grows form h =
+      answers_widened as_bundle groups from.0 from.1 made grown told is grows form h
+  answers_from as_bundle groups None words made grown told is grows form h = answers_named as_bundle groups words made grown told is grows form h
 
   pub answers_learned : (words : List (List ℕ)) (both : Result Both Stop) → IsLearnedOf folder native words (told_in both)
       → TellsOn held failures old new (told_in both) result → AnswersLearn held failures folder old new native words result
-  answers_learned words both is h = (
-    is.others,
-    is.as_bundle,
-    is.named,
-    answers_from is.as_bundle (from_in is.others) is.others is.made (told_in both) is.is_made is.written h,
-  )
+  answers_learned words both is h = (is.others, is.as_bundle, is.named, by is.grows) where
+    by : IsWithGroups native (groups_in is.others) is.made is.grown
+        → StopsAtGroups held failures folder old new is.others result
+        ⊎ (StopsForMemory held failures folder old new result
+        ⊎ AnswersFrom held failures folder old new native is.as_bundle (groups_in is.others) (from_in (others_in is.others))
+        (others_in is.others) result)
+    by (inl unknown) =
+        inl (
+          unknown.0,
+          subst (λ t. TellsOn held failures old new t result)
+              (stopped_in native is.as_bundle is.grown (told_in both) Usage unknown.1 is.written) h,
+        )
+    by (inr (inl memory)) =
+        inr (inl (subst (λ t. TellsOn held failures old new t result)
+        (stopped_in native is.as_bundle is.grown (told_in both) OutOfMemory memory is.written) h))
+    by (inr (inr grows)) =
+        inr (inr (answers_from is.as_bundle (groups_in is.others) (from_in (others_in is.others)) (others_in is.others) is.made is.grown
+        (told_in both) is.is_made grows.1 is.written h))
+
+-- memory is refused before the words are read
+pub learned_memory : (folder : Option Folder) (native : Arch) (words : List (List ℕ)) → IsGrownLearnedOf folder native words (Err OutOfMemory)
+learned_memory folder native words = (Err OutOfMemory, by (from_in (others_in words)), inr (inl refl)) where
+  by : (from : Option (List ℕ × List (List ℕ))) → IsLearnedBy folder native from (others_in words) (Err OutOfMemory)
+  by (Some from) = inr (inl refl)
+  by None = inr (inl refl)

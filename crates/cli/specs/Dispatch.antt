@@ -41,6 +41,7 @@ use Rattle.cli.specs.declared.stops.Stop.{Stop}
 use Rattle.cli.specs.declared.stops.Stop.TheVariants.{CannotRead, OutOfMemory, Refused, Usage, Write}
 use Rattle.cli.specs.Explained.{TellsAllBehind, TellsBehind, TellsRecord}
 use Rattle.cli.specs.Adapted.{AskNothing, IsMadeAs}
+use Rattle.cli.specs.Grouped.{OneIsUnknown, WithGroups, groups_in, others_in}
 use Rattle.cli.specs.Read.{TellsLinted, TellsRead, TellsRules}
 use Rattle.cli.specs.Refusal.{is_refusal}
 use Rattle.cli.specs.Remarked.{RemarksBy}
@@ -296,12 +297,20 @@ module _ {O : Type 0} (held : O → Option (List ℕ)) (failures : O → Failure
   abbrev pub StopsAtWords : Result Bool Stop → Type 0
   StopsAtWords result = (result ≡ Err Usage) × (new ≡ old)
 
-  -- the profile that is made of a configuration, in the form that the words ask for, unless the others ask for nothing
+  -- the program stops at words of which one names no group that there is
+  abbrev pub StopsAtGroups : List (List ℕ) → Result Bool Stop → Type 0
+  StopsAtGroups words result = OneIsUnknown (groups_in words) × StopsAtWords result
+
+  -- The profile that is made of a configuration, in the form that the words ask for, unless the others ask for nothing. The calls of the
+  -- groups among them are allowed in it.
   abbrev pub AnswersAdapt : Arch → List ℕ → List (List ℕ) → Result Bool Stop → Type 0
   AnswersAdapt native config words result =
       (others : List (List ℕ)) × (as_bundle : Bool) × NamesForm words others as_bundle
-      × ((AskNothing others × StopsAtWords result)
-      ⊎ AnswersTold (config ∷ []) (of_one (λ text. WritesMade native as_bundle (OfArguments (IsMadeAs native text) others))) result)
+      × (StopsAtGroups others result
+      ⊎ ((AskNothing (others_in others) × StopsAtWords result)
+      ⊎ AnswersTold (config ∷ [])
+      (of_one (λ text. WritesMade native as_bundle
+      (WithGroups native (groups_in others) (OfArguments (IsMadeAs native text) (others_in others))))) result))
 
   -- what a bundle says of the calls of logs
   abbrev pub AnswersReplay : Arch → List ℕ → List (List ℕ) → Result Bool Stop → Type 0
@@ -310,49 +319,53 @@ module _ {O : Type 0} (held : O → Option (List ℕ)) (failures : O → Failure
       × AnswersTold (bundle ∷ logs) (IsReplayed native unused logs) result
 
   -- What `learn` writes of logs: nothing where it stops at one; or what is told of their bytes, which is the profile if it was done.
-  abbrev pub AnswersLogs : Arch → Bool → List (List ℕ) → Option Runtime → Otherwise → Result Bool Stop → Type 0
-  AnswersLogs native as_bundle logs runtime otherwise result =
+  abbrev pub AnswersLogs : Arch → Bool → List (List ℕ) → List (List ℕ) → Option Runtime → Otherwise → Result Bool Stop → Type 0
+  AnswersLogs native as_bundle groups logs runtime otherwise result =
       ((stop : Stop) × StopsAtLog folder logs stop × (result ≡ Err stop) × (new ≡ old))
       ⊎ ((texts : List (List ℕ)) × (told : Told) × HaveBytes folder logs texts
-      × WritesMade native as_bundle (TellsLearned native texts runtime otherwise) told × WritesTold held failures old new told result)
+      × WritesMade native as_bundle (WithGroups native groups (TellsLearned native texts runtime otherwise)) told
+      × WritesTold held failures old new told result)
 
   -- memory is refused before the words are read
   abbrev pub StopsForMemory : Result Bool Stop → Type 0
   StopsForMemory result = (result ≡ Err OutOfMemory) × (new ≡ old)
 
   -- what is learned from the logs that the words name, for the runtime and with the default that they name
-  abbrev pub AnswersNamed : Arch → Bool → List (List ℕ) → Result Bool Stop → Type 0
-  AnswersNamed native as_bundle words result =
+  abbrev pub AnswersNamed : Arch → Bool → List (List ℕ) → List (List ℕ) → Result Bool Stop → Type 0
+  AnswersNamed native as_bundle groups words result =
       StopsAtWords result
       ⊎ (StopsForMemory result
       ⊎ ((logs : List (List ℕ)) × (runtime : Option Runtime) × (otherwise : Otherwise) × AskFor words logs runtime otherwise
-      × AnswersLogs native as_bundle logs runtime otherwise result))
+      × AnswersLogs native as_bundle groups logs runtime otherwise result))
 
   -- What it writes of a profile and logs: nothing where it stops at one of the files; or what is told of their bytes.
-  abbrev pub AnswersBoth : Arch → Bool → List ℕ → List (List ℕ) → Option Runtime → Otherwise → Result Bool Stop → Type 0
-  AnswersBoth native as_bundle profile logs runtime otherwise result =
+  abbrev pub AnswersBoth : Arch → Bool → List (List ℕ) → List ℕ → List (List ℕ) → Option Runtime → Otherwise → Result Bool Stop → Type 0
+  AnswersBoth native as_bundle groups profile logs runtime otherwise result =
       ((stop : Stop) × (StopsAt folder profile stop ⊎ StopsAtLog folder logs stop) × (result ≡ Err stop) × (new ≡ old))
       ⊎ ((file : List ℕ) × (texts : List (List ℕ)) × (told : Told) × HasBytes folder profile file × HaveBytes folder logs texts
-      × WritesMade native as_bundle (TellsWidened native file texts runtime otherwise) told × WritesTold held failures old new told result)
+      × WritesMade native as_bundle (WithGroups native groups (TellsWidened native file texts runtime otherwise)) told
+      × WritesTold held failures old new told result)
 
   -- the same of the logs that the words behind the profile name
-  abbrev pub AnswersWidened : Arch → Bool → List ℕ → List (List ℕ) → Result Bool Stop → Type 0
-  AnswersWidened native as_bundle profile words result =
+  abbrev pub AnswersWidened : Arch → Bool → List (List ℕ) → List ℕ → List (List ℕ) → Result Bool Stop → Type 0
+  AnswersWidened native as_bundle groups profile words result =
       StopsAtWords result
       ⊎ (StopsForMemory result
       ⊎ ((logs : List (List ℕ)) × (runtime : Option Runtime) × (otherwise : Otherwise) × AskFor words logs runtime otherwise
-      × AnswersBoth native as_bundle profile logs runtime (rest_of words otherwise) result))
+      × AnswersBoth native as_bundle groups profile logs runtime (rest_of words otherwise) result))
 
   -- what is learned by words: with a profile behind `from` from both, and else from logs alone
-  abbrev pub AnswersFrom : Arch → Bool → Option (List ℕ × List (List ℕ)) → List (List ℕ) → Result Bool Stop → Type 0
-  AnswersFrom native as_bundle (Some from) words result = AnswersWidened native as_bundle from.0 from.1 result
-  AnswersFrom native as_bundle None words result = AnswersNamed native as_bundle words result
+  abbrev pub AnswersFrom : Arch → Bool → List (List ℕ) → Option (List ℕ × List (List ℕ)) → List (List ℕ) → Result Bool Stop → Type 0
+  AnswersFrom native as_bundle groups (Some from) words result = AnswersWidened native as_bundle groups from.0 from.1 result
+  AnswersFrom native as_bundle groups None words result = AnswersNamed native as_bundle groups words result
 
-  -- the same in the form that the words ask for
+  -- the same in the form that the words ask for, with the calls of the groups among them
   abbrev pub AnswersLearn : Arch → List (List ℕ) → Result Bool Stop → Type 0
   AnswersLearn native words result =
       (others : List (List ℕ)) × (as_bundle : Bool) × NamesForm words others as_bundle
-      × AnswersFrom native as_bundle (from_in others) others result
+      × (StopsAtGroups others result
+      ⊎ (StopsForMemory result
+      ⊎ AnswersFrom native as_bundle (groups_in others) (from_in (others_in others)) (others_in others) result))
 
   -- the profile that a filter means, in the form that the words ask for, and for the calls for which they do
   abbrev pub AnswersRecovered : Arch → List (List ℕ) → List ℕ → Result Bool Stop → Type 0

@@ -9,6 +9,7 @@ pub mod Refusal
 pub mod Compared
 pub mod Told
 pub mod Written
+pub mod Grouped
 pub mod Dispatch
 pub mod Headline
 pub mod Statuses

@@ -5,10 +5,11 @@ ghost use Rattle.engines.specs.declared.words.Wanted.{Wanted as TheWanted};
 ghost use Rattle.engines.specs.declared.settling.choice.Choice.{Choice as TheChoice};
 ghost use Rattle.cli.specs.Adapted.{AskToAdapt, AsksNarrow, IsMadeAs, IsMadeBy, IsMadeOfDraft, IsNarrowedOne, KeepsText, is_narrow};
 ghost use Rattle.cli.specs.Told.{OfArguments, of_one};
-ghost use Rattle.cli.specs.inner.Telling.{IsAdaptedOf, IsBundleOf, IsToldOf, told_in};
+ghost use Rattle.cli.specs.inner.Telling.{IsAdaptedOf, IsBundleOf, IsGrownBundleOf, IsToldOf, told_in};
 
 use crate::files::{Files, read};
 use crate::forms::{form_in, in_form};
+use crate::grouping::{part_words, with_groups};
 use crate::stops::Stop;
 use call_tables::Arch;
 use engines::{Adapted, Wanted, adapt, wanted_of};
@@ -206,6 +207,25 @@ fn bundle_of<'a, F: Files>(
     }
 }
 
+// The same with the calls of the groups that are among the words.
+fn grown_of<'a, F: Files>(
+    alloc: Global,
+    native: Arch,
+    config: &'a str,
+    words: &[&str],
+    files: &mut F,
+) -> Result<Both, Stop<'a>>
+    ensures { IsGrownBundleOf (F.folder files.old) native config.entry.now (map (λ w. w.now) words.now) (told_in result) }
+{
+    match part_words(alloc, words) {
+        Ok(parted) => {
+            let made = bundle_of(alloc, native, config, &parted.others, files);
+            with_groups(alloc, native, &parted.groups, made)
+        }
+        Err(_no_memory) => Err(Stop::OutOfMemory),
+    }
+}
+
 /// Makes a profile of an engine's configuration, as words ask for it, and in the form that they ask for.
 pub fn adapted<'a, F: Files>(
     alloc: Global,
@@ -217,6 +237,6 @@ pub fn adapted<'a, F: Files>(
     ensures { IsAdaptedOf (F.folder files.old) native config.entry.now (map (λ w. w.now) words.now) (told_in result) }
 {
     let (others, as_bundle) = form_in(words);
-    let made = bundle_of(alloc, native, config, others, files);
-    in_form(alloc, native, as_bundle, made)
+    let grown = grown_of(alloc, native, config, others, files);
+    in_form(alloc, native, as_bundle, grown)
 }

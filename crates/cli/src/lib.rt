@@ -19,6 +19,7 @@ mod fault;
 mod files;
 mod flattening;
 mod forms;
+mod grouping;
 mod law;
 mod logs;
 mod manual;

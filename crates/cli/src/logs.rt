@@ -8,12 +8,13 @@ ghost use Rattle.cli.specs.Dispatch.{StopsAtLog};
 ghost use Rattle.cli.specs.Files.{IsOpened};
 ghost use Rattle.cli.specs.Told.{IsReplayed, NamesLogs};
 ghost use Rattle.cli.specs.Widened.{from_in as profile_in};
-ghost use Rattle.cli.specs.inner.Telling.{IsLearnedBundleOf, IsLearnedBy, IsLearnedFrom, IsLearnedOf, IsReplayOf, IsToldOf, ShowEach, ShowsMore, StopsAtName, told_in};
+ghost use Rattle.cli.specs.inner.Telling.{IsGrownLearnedOf, IsLearnedBundleOf, IsLearnedBy, IsLearnedFrom, IsLearnedOf, IsReplayOf, IsToldOf, ShowEach, ShowsMore, StopsAtName, told_in};
 
 use crate::adapting::Both;
 use crate::fault::FileFault;
 use crate::files::{Files, read_bundle, read_each};
 use crate::forms::{form_in, in_form};
+use crate::grouping::{part_words, with_groups};
 use crate::stops::Stop;
 use crate::widening::{from_in, widened};
 use call_tables::Arch;
@@ -124,10 +125,10 @@ pub(crate) fn learned_of<'a, F: Files>(
 fn bundle_of<'a, F: Files>(
     alloc: Global,
     native: Arch,
-    words: &'a [&'a str],
+    words: &[&'a str],
     files: &mut F,
 ) -> Result<Both, Stop<'a>>
-    ensures { IsLearnedBundleOf (F.folder files.old) native (map (λ w. w.now) words.entry.now) (told_in result) }
+    ensures { IsLearnedBundleOf (F.folder files.old) native (map (λ w. w.now) words.now) (told_in result) }
 {
     match wish_of(alloc, native, words) {
         Ok(Some(wish)) => learned_of(alloc, native, &wish, files),
@@ -140,14 +141,32 @@ fn bundle_of<'a, F: Files>(
 fn learned_by<'a, F: Files>(
     alloc: Global,
     native: Arch,
-    words: &'a [&'a str],
+    words: &[&'a str],
     files: &mut F,
 ) -> Result<Both, Stop<'a>>
-    ensures { IsLearnedBy (F.folder files.old) native (profile_in (map (λ w. w.now) words.entry.now)) (map (λ w. w.now) words.entry.now) (told_in result) }
+    ensures { IsLearnedBy (F.folder files.old) native (profile_in (map (λ w. w.now) words.now)) (map (λ w. w.now) words.now) (told_in result) }
 {
     match from_in(words) {
         Some((profile, logs)) => widened(alloc, native, profile, logs, files),
         None => bundle_of(alloc, native, words, files),
+    }
+}
+
+// The same with the calls of the groups that are among the words.
+fn grown_of<'a, F: Files>(
+    alloc: Global,
+    native: Arch,
+    words: &[&'a str],
+    files: &mut F,
+) -> Result<Both, Stop<'a>>
+    ensures { IsGrownLearnedOf (F.folder files.old) native (map (λ w. w.now) words.now) (told_in result) }
+{
+    match part_words(alloc, words) {
+        Ok(parted) => {
+            let made = learned_by(alloc, native, &parted.others, files);
+            with_groups(alloc, native, &parted.groups, made)
+        }
+        Err(_no_memory) => Err(Stop::OutOfMemory),
     }
 }
 
@@ -161,8 +180,8 @@ pub fn learned<'a, F: Files>(
     ensures { IsLearnedOf (F.folder files.old) native (map (λ w. w.now) words.entry.now) (told_in result) }
 {
     let (others, as_bundle) = form_in(words);
-    let made = learned_by(alloc, native, others, files);
-    in_form(alloc, native, as_bundle, made)
+    let grown = grown_of(alloc, native, others, files);
+    in_form(alloc, native, as_bundle, grown)
 }
 
 // Whether the last word is `unused` and stands behind others.

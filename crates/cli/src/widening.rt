@@ -19,8 +19,8 @@ use strace_logs::{Otherwise, Wish, wish_of};
 use together::Way;
 
 /// The profile behind the word `from`, and the words behind it.
-pub(crate) fn from_in<'a>(words: &'a [&'a str]) -> Option<(&'a str, &'a [&'a str])>
-    ensures { option_map (λ f. (f.0.now, map (λ w. w.now) f.1.now)) result ≡ spec.from_in (map (λ w. w.now) words.entry.now) }
+pub(crate) fn from_in<'a, 'b>(words: &'a [&'b str]) -> Option<(&'b str, &'a [&'b str])>
+    ensures { option_map (λ f. (f.0.now, map (λ w. w.now) f.1.now)) result ≡ spec.from_in (map (λ w. w.now) words.now) }
 {
     match words {
         [word, profile, others @ ..] => {
@@ -119,10 +119,10 @@ pub(crate) fn widened<'a, F: Files>(
     alloc: Global,
     native: Arch,
     profile: &'a str,
-    words: &'a [&'a str],
+    words: &[&'a str],
     files: &mut F,
 ) -> Result<Both, Stop<'a>>
-    ensures { IsWidenedOf (F.folder files.old) native profile.entry.now (map (λ w. w.now) words.entry.now) (told_in result) }
+    ensures { IsWidenedOf (F.folder files.old) native profile.entry.now (map (λ w. w.now) words.now) (told_in result) }
 {
     match wish_of(alloc, native, words) {
         Ok(Some(mut wish)) => {

@@ -7,6 +7,7 @@ ghost use Rattle.command_line.specs.Table.{rows};
 use crate::prose::Command;
 use crate::reading::{called, is_word};
 use crate::table::{Entry, Part, commands};
+use call_groups::{is_group, is_known};
 use std::alloc::{AllocError, Global};
 use std::fmt::Write;
 
@@ -151,9 +152,9 @@ fn is_one(words: &[&str], word: &str) -> bool {
     false
 }
 
-// Whether a word is a value as that of a capability, a kernel or a call's arguments.
+// Whether a word is a value as that of a capability, a kernel or a call's arguments, or names a group of calls.
 fn is_value(word: &str) -> bool {
-    word.starts_with("CAP_") || word.contains('.') || word.contains(':')
+    word.starts_with("CAP_") || word.contains('.') || word.contains(':') || is_group(word)
 }
 
 // Adds what may stand behind a word, if this one may not. Returns whether it may not.
@@ -222,6 +223,54 @@ fn put_unknown(text: &mut String, name: &str, words: &[&str]) -> Result<bool, Al
     Ok(false)
 }
 
+// Whether words of a command may name groups of calls.
+fn takes_groups(name: &str) -> bool {
+    name == "adapt" || name == "learn"
+}
+
+// Adds that a word names no group of calls that there is, if it does. Returns whether it does.
+fn put_no_group(alloc: Global, text: &mut String, word: &str) -> Result<bool, AllocError> {
+    if !is_group(word) || is_known(alloc, word)? {
+        return Ok(false);
+    }
+    write!(text, "{word} is no group of calls: names as @basic-io")?;
+    Ok(true)
+}
+
+// Adds that one of the words of a command does. Returns whether one does.
+fn put_unknown_group(
+    alloc: Global,
+    text: &mut String,
+    name: &str,
+    words: &[&str],
+) -> Result<bool, AllocError> {
+    if !takes_groups(name) {
+        return Ok(false);
+    }
+    for word in words {
+        if put_no_group(alloc, text, word)? {
+            return Ok(true);
+        }
+    }
+    Ok(false)
+}
+
+// Adds what is wrong with an argument, if one is known to be wrong. Returns whether one is.
+fn put_known(
+    alloc: Global,
+    text: &mut String,
+    entry: &Entry,
+    words: &[&str],
+) -> Result<bool, AllocError> {
+    if put_wrong(text, entry.2, words)? {
+        return Ok(true);
+    }
+    if put_unknown(text, entry.0, words)? {
+        return Ok(true);
+    }
+    put_unknown_group(alloc, text, entry.0, words)
+}
+
 // Adds that a page is asked for of no command, or that the words ask for nothing.
 fn put_nothing(text: &mut String, entry: &Entry, words: &[&str]) -> Result<(), AllocError> {
     match (entry.4, words) {
@@ -247,7 +296,7 @@ fn put_count(text: &mut String, entry: &Entry, words: &[&str]) -> Result<(), All
 // The line that says what is wrong with the arguments of a command.
 fn line_of(alloc: Global, entry: &Entry, words: &[&str]) -> Result<String, AllocError> {
     let mut text = String::from_str(alloc, "ccell: ")?;
-    if !put_wrong(&mut text, entry.2, words)? && !put_unknown(&mut text, entry.0, words)? {
+    if !put_known(alloc, &mut text, entry, words)? {
         put_count(&mut text, entry, words)?;
     }
     writeln!(text, " (ccell manual {})", entry.0)?;

@@ -131,6 +131,7 @@ narrow: compare only the bits that the kernel reads.
 log: log what would be refused.
 for docker|podman|containerd: work out an engine's own profile.
 cap CAP.. or cap all, and kernel 6.12: the capabilities and the kernel that it is worked out for.
+@basic-io and the like, groups of calls as systemd has them: allow their calls, too.
 bundle, as the last word: write a bundle, a config.json with the section in it.
 Status 0, 1 and the reason on standard error, or 4 and a line that begins with 'refused'.
 
@@ -143,6 +144,7 @@ what was read, and what was added and why. Beside the logs may stand:
 keep CALL:ARG[,ARG]: compare these arguments with the values seen; once for each call.
 for crun|runc|bwrap|docker|podman: add the calls that a runtime makes behind the load.
 else errno|enosys|log|kill: the answer to all other calls.
+@basic-io and the like, groups of calls as systemd has them: allow their calls, too.
 bundle, as the last word: write a bundle, a config.json with the section in it.
 With from and a bundle in front of the logs it adds to what this bundle allows.
 Status 0, 1 if no section says both, or 4 and a line that begins with 'refused'.

@@ -20,6 +20,7 @@ use Rattle.cli.specs.Files.{Folder, HasBytes}
 use Rattle.cli.specs.Input.{StopsInput}
 use Rattle.cli.specs.Adapted.{AskNothing, IsMadeAs}
 use Rattle.cli.specs.Combined.{TellsCombined, TellsStack}
+use Rattle.cli.specs.Grouped.{AreKnown, IsGrown, OneIsUnknown, groups_in, others_in}
 use Rattle.cli.specs.Told.{IsManual, IsNoCommand, IsReplayed, NamesLogs, OfArguments, OfBundle, OfEach, of_none, of_one}
 use Rattle.cli.specs.Widened.{TellsWidened, from_in, rest_of}
 use Rattle.cli.specs.Written.{IsWritten, NamesForm, WritesMade}
@@ -55,11 +56,29 @@ IsInForm native as_bundle (Ok made) (Ok told) = IsWritten native as_bundle made 
 IsInForm native as_bundle (Ok made) (Err stop) = stop ≡ OutOfMemory
 IsInForm native as_bundle (Err stop) told = told ≡ Err stop
 
+-- what was made is told with the calls of groups, unless the program stopped
+abbrev pub GrowsTold : Arch → List (List ℕ) → Result Told Stop → Result Told Stop → Type 0
+GrowsTold native groups (Ok made) (Ok told) = IsGrown native groups made told
+GrowsTold native groups (Ok made) (Err stop) = stop ≡ OutOfMemory
+GrowsTold native groups (Err stop) told = told ≡ Err stop
+
+-- the same where there is each of the groups
+abbrev pub IsWithGroups : Arch → List (List ℕ) → Result Told Stop → Result Told Stop → Type 0
+IsWithGroups native groups made told =
+    (OneIsUnknown groups × (told ≡ Err Usage))
+    ⊎ ((told ≡ Err OutOfMemory)
+    ⊎ (AreKnown groups × GrowsTold native groups made told))
+
 -- the bundle that is made of a configuration, unless the words ask for nothing
 abbrev pub IsBundleOf : Option Folder → Arch → List ℕ → List (List ℕ) → Result Told Stop → Type 0
 IsBundleOf folder native config words told =
     (AskNothing words × (told ≡ Err Usage))
     ⊎ IsToldOf folder (config ∷ []) (of_one (λ text. OfArguments (IsMadeAs native text) words)) told
+
+-- the same with the calls of the groups that are among the words
+abbrev pub IsGrownBundleOf : Option Folder → Arch → List ℕ → List (List ℕ) → Result Told Stop → Type 0
+IsGrownBundleOf folder native config words told =
+    (made : Result Told Stop) × IsBundleOf folder native config (others_in words) made × IsWithGroups native (groups_in words) made told
 
 -- the same in the form that the words ask for
 pub record IsAdaptedOf (folder : Option Folder) (native : Arch) (config : List ℕ) (words : List (List ℕ)) (told : Result Told Stop)
@@ -68,8 +87,10 @@ pub record IsAdaptedOf (folder : Option Folder) (native : Arch) (config : List �
   pub as_bundle : Bool
   pub named : NamesForm words others as_bundle
   pub made : Result Told Stop
-  pub is_made : IsBundleOf folder native config others made
-  pub written : IsInForm native as_bundle made told
+  pub is_made : IsBundleOf folder native config (others_in others) made
+  pub grown : Result Told Stop
+  pub grows : IsWithGroups native (groups_in others) made grown
+  pub written : IsInForm native as_bundle grown told
 
 -- what a bundle says of the calls of the logs that the words name
 pub record IsReplayOf (folder : Option Folder) (native : Arch) (bundle : List ℕ) (words : List (List ℕ)) (told : Result Told Stop)
@@ -142,14 +163,22 @@ abbrev pub IsLearnedBy : Option Folder → Arch → Option (List ℕ × List (Li
 IsLearnedBy folder native (Some from) words told = IsWidenedOf folder native from.0 from.1 told
 IsLearnedBy folder native None words told = IsLearnedBundleOf folder native words told
 
+-- the same with the calls of the groups that are among the words
+abbrev pub IsGrownLearnedOf : Option Folder → Arch → List (List ℕ) → Result Told Stop → Type 0
+IsGrownLearnedOf folder native words told =
+    (made : Result Told Stop) × IsLearnedBy folder native (from_in (others_in words)) (others_in words) made
+    × IsWithGroups native (groups_in words) made told
+
 -- the same in the form that the words ask for
 pub record IsLearnedOf (folder : Option Folder) (native : Arch) (words : List (List ℕ)) (told : Result Told Stop) : Type 0 where
   pub others : List (List ℕ)
   pub as_bundle : Bool
   pub named : NamesForm words others as_bundle
   pub made : Result Told Stop
-  pub is_made : IsLearnedBy folder native (from_in others) others made
-  pub written : IsInForm native as_bundle made told
+  pub is_made : IsLearnedBy folder native (from_in (others_in others)) (others_in others) made
+  pub grown : Result Told Stop
+  pub grows : IsWithGroups native (groups_in others) made grown
+  pub written : IsInForm native as_bundle grown told
 
 -- the input is read to its end, and what a bundle says of its lines is told; or the program stops
 abbrev pub TellsAudit : Option (List ℕ) → Option (List ℕ) → Failures → Failures → Arch → List ℕ → Result Told Stop → Type 0

@@ -1,0 +1,4 @@
+pub mod Calls
+pub mod Allowing
+pub mod Report
+pub mod Allowed
