@@ -164,9 +164,9 @@ told_loaded how p t ps told own =
     record {
       judges = judges;
       agree = each_map (Agrees told.judges ps.loads) (Agrees judges (ps.loads + 1)) (λ u. if takes how.for_all t u then record u {
-            filters = first ∷ t.filters;
-            listener = listener;
-          } else u)
+        filters = first ∷ t.filters;
+        listener = listener;
+      } else u)
           (λ u a. either (Agrees judges (ps.loads + 1)) (takes how.for_all t u) (record u {
             filters = first ∷ t.filters;
             listener = listener;

@@ -99,13 +99,7 @@ fn command_of<'a, 'c, 'r: 'c>(
             nr,
             args,
             ..
-        } => Some(Command::Call(
-            id,
-            task,
-            record_of(arch, nr, args),
-            program,
-            None,
-        )),
+        } => Some(Command::Call(id, task, record_of(arch, nr, args), program, None)),
     }
 }
 
