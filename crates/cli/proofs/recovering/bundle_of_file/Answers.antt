@@ -1,6 +1,6 @@
 use Rattle.std.proofs.Common.{ℕ, List, [], ◌∷◌, map, subst, sym}
 use Rattle.cli.specs.Files.{HasEnough}
-use Rattle.cli.specs.Recovered.{leaves_out}
+use Rattle.cli.specs.Recovered.{allows_others}
 use Rattle.cli.proofs.FileLaws.{recovered_of_file}
 use Rattle.cli.proofs.recovering.bundle_of_file.Goals as goal
 
@@ -11,5 +11,5 @@ returns-in-Ok-bundle_by g c =
       read.file ∷ [],
       (read.is, tt),
       recovered_of_file read.file c.deref.result.now read.enough c.args.native (map (λ w. w.now) c.args.words.now) c.in-Ok-bundle_by.both.told
-          (leaves_out (map (λ w. w.now) c.args.words.now)) c.in-Ok-bundle_by.ensures,
+          (allows_others (map (λ w. w.now) c.args.words.now)) c.in-Ok-bundle_by.ensures,
     )
