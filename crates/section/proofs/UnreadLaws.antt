@@ -18,3 +18,9 @@ pub none_behind : (old mid own : List ℕ) (lines : Json → List ℕ) (o : Opti
     → mid ≡ old ++ (own ++ lines_if lines o)
 none_behind old mid own lines o first none =
     subst (λ (p : Option Json). mid ≡ old ++ (own ++ lines_if lines p)) none (first ∙ ap (λ m. old ++ m) (sym (append-nil own)))
+
+-- lines and lines behind them
+pub both_behind : {T E : Type 0} (r : Result T E) (old mid new own more : List ℕ) → mid ≡ old ++ own → IfOk r (λ _. new ≡ mid ++ more)
+    → IfOk r (λ _. new ≡ old ++ (own ++ more))
+both_behind (Ok x) old mid new own more first h = h ∙ ap (λ m. m ++ more) first ∙ append_assoc old own more
+both_behind (Err e) old mid new own more first h = h

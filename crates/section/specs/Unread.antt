@@ -1,10 +1,10 @@
 -- What stands in a bundle and is not read: members of its section under other keys, and a key that stands twice.
-use Rattle.std.specs.Prelude.{ℕ, ◌≡◌, ◌+◌, ◌&&◌, ◌||◌, ◌⊎◌, Bool, List, [], ◌∷◌, ◌++◌, Option, Some, None}
+use Rattle.std.specs.Prelude.{ℕ, ◌≡◌, ◌+◌, ◌&&◌, ◌||◌, ◌⊎◌, Bool, false, List, [], ◌∷◌, ◌++◌, Option, Some, None}
 use Rattle.std.specs.Prelude.{codes, count_by, if◌then◌else◌, map, nat_lt}
 use Rattle.std.specs.Fmt.{decimal}
 use Rattle.std.specs.List.{flat_map, list_any}
 use Rattle.std.specs.Str.{IsUtf8, bytes_eq}
-use Rattle.json.specs.Json.{Json, document}
+use Rattle.json.specs.Json.{Json, document, null, boolean, number, string, array, object}
 use Rattle.json.specs.Find.{get}
 use Rattle.call_tables.specs.declared.arch.Arch.{Arch}
 use Rattle.call_tables.specs.declared.arch.Family.{Family}
@@ -24,6 +24,17 @@ abbrev pub section_keys : List (List ℕ)
 section_keys =
     key.default_action ∷ key.default_errno_ret ∷ key.architectures ∷ key.flags ∷ key.listener_path ∷ key.listener_metadata
     ∷ key.syscalls ∷ []
+
+-- the key of what is told of other machines, which `recover` writes, and the name of ALLOW
+abbrev pub others_key : List ℕ
+others_key = codes "x-ccell-otherMachines"
+
+abbrev pub allow_name : List ℕ
+allow_name = codes "SCMP_ACT_ALLOW"
+
+-- the keys of a section, and this one
+abbrev pub told_keys : List (List ℕ)
+told_keys = section_keys ++ others_key ∷ []
 
 abbrev pub entry_keys : List (List ℕ)
 entry_keys = key.names ∷ key.action ∷ key.errno_ret ∷ key.args ∷ []
@@ -99,9 +110,30 @@ abbrev pub entries_lines : ℕ → List Json → List ℕ
 entries_lines n [] = []
 entries_lines n (j ∷ js) = entry_lines n j ++ entries_lines (n + 1) js
 
+-- the value is the name of ALLOW
+abbrev pub is_allow : Json → Bool
+is_allow (string s) = bytes_eq s allow_name
+is_allow null = false
+is_allow (boolean b) = false
+is_allow (number s) = false
+is_allow (array js) = false
+is_allow (object ms) = false
+
+-- what is told of other machines is told once more, and that no engine reads it; what has no meaning is not read
+abbrev pub others_line : Json → List ℕ
+others_line j =
+    if is_allow j then codes "linux.seccomp.x-ccell-otherMachines: calls of other machines are allowed, as this filter has it; no engine reads this member\n"
+    else codes "linux.seccomp.x-ccell-otherMachines: is not read\n"
+
+abbrev pub others_lines : Json → List ℕ
+others_lines j = lines_if others_line (get others_key j)
+
+abbrev pub members_lines : Json → List ℕ
+members_lines j = object_lines told_keys (codes "linux.seccomp.") j ++ others_lines j
+
 abbrev pub section_lines : Json → List ℕ
 section_lines j =
-    object_lines section_keys (codes "linux.seccomp.") j ++ lines_if (λ list. entries_lines 0 (list_of list)) (get key.syscalls j)
+    members_lines j ++ lines_if (λ list. entries_lines 0 (list_of list)) (get key.syscalls j)
 
 abbrev pub linux_lines : Json → List ℕ
 linux_lines j = twice_lines linux_keys (codes "linux.") (keys_of j) ++ lines_if section_lines (get key.seccomp j)

@@ -26,6 +26,18 @@ pub const SECTION_KEYS: &[&str] = &[
     "syscalls",
 ];
 
+// The same, and that of what is told of other machines.
+const TOLD_KEYS: &[&str] = &[
+    "defaultAction",
+    "defaultErrnoRet",
+    "architectures",
+    "flags",
+    "listenerPath",
+    "listenerMetadata",
+    "syscalls",
+    "x-ccell-otherMachines",
+];
+
 /// Those of an entry.
 pub const ENTRY_KEYS: &[&str] = &["names", "action", "errnoRet", "args"];
 
@@ -265,11 +277,54 @@ fn put_entries(lines: &mut Vec<u8>, alloc: Global, values: &[Value<'_>]) -> Resu
     Ok(())
 }
 
+// Whether a value is the name of ALLOW.
+fn is_allow(value: &Value<'_>) -> bool
+    ensures { result ≡ spec.is_allow (value_view value.now) }
+{
+    match value {
+        Value::String(text) => *text == "SCMP_ACT_ALLOW",
+        _ => false,
+    }
+}
+
+const OTHERS: &str =
+    "linux.seccomp.x-ccell-otherMachines: calls of other machines are allowed, as this filter has it; no engine reads this member\n";
+
+const NO_OTHERS: &str = "linux.seccomp.x-ccell-otherMachines: is not read\n";
+
+// Adds the line of what is told of other machines.
+fn put_other(lines: &mut Vec<u8>, value: &Value<'_>) -> Result<(), AllocError>
+    ensures { IfOk result (λ _. lines.new.items ≡ lines.old.items ++ spec.others_line (value_view value.now)) }
+{
+    if is_allow(value) {
+        return lines.extend_from_slice(OTHERS.as_bytes());
+    }
+    lines.extend_from_slice(NO_OTHERS.as_bytes())
+}
+
+// The same of a section, if it tells something.
+fn put_others(lines: &mut Vec<u8>, value: &Value<'_>) -> Result<(), AllocError>
+    ensures { IfOk result (λ _. lines.new.items ≡ lines.old.items ++ spec.others_lines (value_view value.now)) }
+{
+    match value.get("x-ccell-otherMachines") {
+        Some(found) => put_other(lines, found),
+        None => Ok(()),
+    }
+}
+
+// Adds the lines of a section's own members.
+fn put_members(lines: &mut Vec<u8>, value: &Value<'_>) -> Result<(), AllocError>
+    ensures { IfOk result (λ _. lines.new.items ≡ lines.old.items ++ spec.members_lines (value_view value.now)) }
+{
+    put_object(lines, "linux.seccomp.", TOLD_KEYS, value)?;
+    put_others(lines, value)
+}
+
 // Adds the lines of a section.
 fn put_section(lines: &mut Vec<u8>, alloc: Global, value: &Value<'_>) -> Result<(), AllocError>
     ensures { IfOk result (λ _. lines.new.items ≡ lines.old.items ++ spec.section_lines (value_view value.now)) }
 {
-    put_object(lines, "linux.seccomp.", SECTION_KEYS, value)?;
+    put_members(lines, value)?;
     match value.get("syscalls") {
         Some(list) => put_entries(lines, alloc, list_of(list)),
         None => Ok(()),
