@@ -30,9 +30,10 @@ use Rattle.maker.specs.declared.evidence.evidence.Conviction.{Conviction}
 use Rattle.compare.specs.Convictions.{AllConvict, Convicts, TellsAll}
 use Rattle.cli.specs.Explained.{TellsAllBehind, TellsBehind, TellsStub, WritesFound, WritesSome}
 use Rattle.cli.specs.Files.{IsEnough}
-use Rattle.cli.specs.Recovered.{TellsBy, has_word, leave_in}
+use Rattle.cli.specs.Recovered.{TellsBy, TellsIf, has_word, leave_in, leaves_out}
 use Rattle.recover_but.specs.RecoveredBut.{IsToldBut}
 use Rattle.recover.specs.Recovered.{IsRecovered}
+use Rattle.recover_others.specs.RecoveredOthers.{IsRecoveredOthers}
 use Rattle.cli.proofs.EnoughLaws.{all_read, all_read_of, first_of_file, same_fault, whole_filter}
 
 -- the answer of a filter to a record
@@ -242,15 +243,22 @@ module _ (native : Arch) (bundle filter f : List ℕ) (enough : IsEnough 32768 f
             → TellsAllBehind held failures old new shown dropped err err' native bundle filter result
         tells_all_behind_of_file h = tells_all_by h h.behind
 
--- the bundle that is made of a filter, as words ask
-pub recovered_of_file : (filter f : List ℕ) (enough : IsEnough 32768 filter f) (native : Arch) (words : List (List ℕ)) (told : Told) (out : Bool)
+-- the bundle that is made of a filter, as words ask that leave calls out or none
+left_of_file : (filter f : List ℕ) (enough : IsEnough 32768 filter f) (native : Arch) (words : List (List ℕ)) (told : Told) (out : Bool)
     → TellsBy out native words f told → TellsBy out native words filter told
-recovered_of_file filter f enough native words told true h =
+left_of_file filter f enough native words told true h =
     λ done. let is = h done in
     subst (λ b. (lines : List ℕ) × IsToldBut native b (has_word (codes "runc") words) (leave_in words) told.bytes.items lines)
     (whole_filter filter f enough is.1.recovered.accepted.program) is
-recovered_of_file filter f enough native words told false h =
+left_of_file filter f enough native words told false h =
     λ done. let is = h done in subst (λ b. IsRecovered native told.bytes.items b) (whole_filter filter f enough is.program) is
+
+-- or as they ask that the filter allows other calls
+pub recovered_of_file : (filter f : List ℕ) (enough : IsEnough 32768 filter f) (native : Arch) (words : List (List ℕ)) (told : Told) (others : Bool)
+    → TellsIf others native words f told → TellsIf others native words filter told
+recovered_of_file filter f enough native words told true h =
+    λ done. let is = h done in subst (λ b. IsRecoveredOthers native told.bytes.items b) (whole_filter filter f enough is.is.program) is
+recovered_of_file filter f enough native words told false h = left_of_file filter f enough native words told (leaves_out words) h
 
 -- what is shown of a filter
 module _ (filter f : List ℕ) (enough : IsEnough 32768 filter f) where

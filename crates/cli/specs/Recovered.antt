@@ -5,6 +5,7 @@ use Rattle.aside.specs.declared.leave.Leave.{Leave}
 use Rattle.call_tables.specs.declared.arch.Arch.{Arch}
 use Rattle.recover.specs.Recovered.{IsRecovered}
 use Rattle.recover_but.specs.RecoveredBut.{IsToldBut}
+use Rattle.recover_others.specs.RecoveredOthers.{IsRecoveredOthers}
 use Rattle.wording.specs.declared.told.Told.{Told}
 
 -- where it was done, the bundle that is told means the filter's profile
@@ -15,6 +16,10 @@ TellsRecovered native filter told = told.done ≡ true → IsRecovered native to
 abbrev pub TellsRecoveredBut : Arch → Bool → Leave → List ℕ → Told → Type 0
 TellsRecoveredBut native runc leave filter told =
     told.done ≡ true → (lines : List ℕ) × IsToldBut native filter runc leave told.bytes.items lines
+
+-- where it was done, the filter allows calls of other machines, and the bundle that is told means what it says of all others
+abbrev pub TellsRecoveredOthers : Arch → List ℕ → Told → Type 0
+TellsRecoveredOthers native filter told = told.done ≡ true → IsRecoveredOthers native told.bytes.items filter
 
 -- one of the words is this
 abbrev pub has_word : List ℕ → List (List ℕ) → Bool
@@ -33,6 +38,14 @@ abbrev pub TellsBy : Bool → Arch → List (List ℕ) → List ℕ → Told →
 TellsBy true native words filter told = TellsRecoveredBut native (has_word (codes "runc") words) (leave_in words) filter told
 TellsBy false native words filter told = TellsRecovered native filter told
 
+-- the words say that the filter allows calls of other machines
+abbrev pub allows_others : List (List ℕ) → Bool
+allows_others words = has_word (codes "others") words
+
+abbrev pub TellsIf : Bool → Arch → List (List ℕ) → List ℕ → Told → Type 0
+TellsIf true native words filter told = TellsRecoveredOthers native filter told
+TellsIf false native words filter told = TellsBy (leaves_out words) native words filter told
+
 -- what is told as the words ask
 abbrev pub TellsAsked : Arch → List (List ℕ) → List ℕ → Told → Type 0
-TellsAsked native words filter told = TellsBy (leaves_out words) native words filter told
+TellsAsked native words filter told = TellsIf (allows_others words) native words filter told

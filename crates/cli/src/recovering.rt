@@ -5,6 +5,7 @@ ghost use Rattle.call_tables.specs.declared.arch.Arch.{Arch as TheArch};
 ghost use Rattle.recover.specs.Recovered.{IsRecovered};
 ghost use Rattle.recover_but.specs.RecoveredBut.{IsToldBut};
 ghost use Rattle.byte_order.specs.Turned.{read_as};
+ghost use Rattle.recover_others.specs.RecoveredOthers.{IsRecoveredOthers};
 ghost use Rattle.cli.specs.Recovered as spec;
 ghost use Rattle.cli.specs.Told.{of_one};
 ghost use Rattle.cli.specs.Written.{WritesMade};
@@ -18,6 +19,7 @@ use aside::Leave;
 use call_tables::Arch;
 use recover::{Unsaid, line_of, recover};
 use recover_but::{RecoveredBut, recover_told};
+use recover_others::{Unallowed, recover_others};
 use std::alloc::{AllocError, Global};
 use wording::Told;
 
@@ -78,16 +80,40 @@ fn found_but(made: RecoveredBut) -> Both
     }
 }
 
+// Behind a bundle that tells it.
+const OTHERS: &str =
+    "ccell: x-ccell-otherMachines: calls of other machines are allowed, as this filter has it; no engine reads this member\n";
+
+// A bundle that was found where other calls are allowed.
+fn found_others(alloc: Global, bundle: String) -> Result<Both, AllocError>
+    ensures { (native : TheArch) (filter : List ℕ) → IsRecoveredOthers native (string_bytes bundle) filter
+        → IfOk result (λ both. spec.TellsRecoveredOthers native filter both.told) }
+{
+    let changes = String::from_str(alloc, OTHERS)?;
+    let told = Told {
+        bytes: bundle.into_bytes(),
+        done: true,
+    };
+    Ok(Both { told, changes })
+}
+
+// That none was found, and why.
+fn none(alloc: Global, changes: String) -> Both
+    ensures { result.told.done ≡ false }
+{
+    let told = Told {
+        bytes: Vec::new(alloc),
+        done: false,
+    };
+    Both { told, changes }
+}
+
 // Why none was found.
 fn untold(alloc: Global, native: Arch, unsaid: &Unsaid) -> Result<Both, AllocError>
     ensures { IfOk result (λ both. both.told.done ≡ false) }
 {
     let changes = line_of(alloc, native, unsaid)?;
-    let told = Told {
-        bytes: Vec::new(alloc),
-        done: false,
-    };
-    Ok(Both { told, changes })
+    Ok(none(alloc, changes))
 }
 
 // The bundle that means what a filter does, or why none was found.
@@ -116,9 +142,59 @@ fn bundle_but(
     }
 }
 
-// The bundle for which the words ask, or why none was found.
-fn bundle_by(alloc: Global, native: Arch, words: &[&str], filter: &[u8]) -> Result<Both, AllocError>
-    ensures { IfOk result (λ both. spec.TellsAsked native (map (λ w. w.now) words.now) filter.now both.told) }
+// Why none was found where other calls are allowed.
+fn unallowed(alloc: Global, native: Arch, why: &Unallowed) -> Result<Both, AllocError>
+    ensures { IfOk result (λ both. both.told.done ≡ false) }
+{
+    let changes = recover_others::line_of(alloc, native, why)?;
+    Ok(none(alloc, changes))
+}
+
+// The bundle of a filter that allows other calls, or why none was found.
+fn bundle_others(alloc: Global, native: Arch, filter: &[u8]) -> Result<Both, AllocError>
+    ensures { IfOk result (λ both. spec.TellsRecoveredOthers native filter.now both.told) }
+{
+    match recover_others(alloc, native, filter) {
+        Ok(bundle) => found_others(alloc, bundle),
+        Err(why) => unallowed(alloc, native, &why),
+    }
+}
+
+const ALONE: &str =
+    "no section was found: others leaves no calls out, and stands beside none of runc, calls and without-x32\n";
+
+// What tells that no words that leave calls out stand beside `others`.
+fn refused(alloc: Global) -> Result<Both, AllocError>
+    ensures { IfOk result (λ both. both.told.done ≡ false) }
+{
+    let changes = String::from_str(alloc, ALONE)?;
+    Ok(none(alloc, changes))
+}
+
+// The bundle of a filter that allows other calls, unless words stand beside that leave calls out.
+fn bundle_others_if(
+    alloc: Global,
+    native: Arch,
+    words: &[&str],
+    filter: &[u8],
+) -> Result<Both, AllocError>
+    ensures { IfOk result (λ both. spec.TellsRecoveredOthers native filter.now both.told) }
+{
+    if leaves_out(words) {
+        return refused(alloc);
+    }
+    bundle_others(alloc, native, filter)
+}
+
+// The bundle for which the words ask that leave calls out or none, or why none was found.
+fn bundle_left(
+    alloc: Global,
+    native: Arch,
+    words: &[&str],
+    filter: &[u8],
+) -> Result<Both, AllocError>
+    ensures { IfOk result (λ both. spec.TellsBy (spec.leaves_out (map (λ w. w.now) words.now)) native (map (λ w. w.now) words.now) filter.now
+        both.told) }
 {
     if leaves_out(words) {
         return bundle_but(
@@ -130,6 +206,16 @@ fn bundle_by(alloc: Global, native: Arch, words: &[&str], filter: &[u8]) -> Resu
         );
     }
     bundle_of(alloc, native, filter)
+}
+
+// The bundle for which the words ask, or why none was found.
+fn bundle_by(alloc: Global, native: Arch, words: &[&str], filter: &[u8]) -> Result<Both, AllocError>
+    ensures { IfOk result (λ both. spec.TellsAsked native (map (λ w. w.now) words.now) filter.now both.told) }
+{
+    if has_word("others", words) {
+        return bundle_others_if(alloc, native, words, filter);
+    }
+    bundle_left(alloc, native, words, filter)
 }
 
 // The same of a filter by its name.

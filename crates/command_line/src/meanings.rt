@@ -60,10 +60,10 @@ impl Meaning {
                 "what is shown in place of the listing is what the filter costs the calls of the machine\n[possible values: cost]"
             }
             Meaning::Recovered => {
-                "the config.json is written, and not its section; or the filter is of runc, which puts its ENOSYS stub in\nfront; or numbers that no table has are left aside, or all calls of x32\n[possible values: bundle, runc, calls, without-x32]"
+                "the config.json is written, and not its section; or the filter is of runc, which puts its ENOSYS stub in\nfront; or numbers that no table has are left aside, or all calls of x32; or the filter allows the\ncalls of machines that it does not know\n[possible values: bundle, runc, calls, without-x32, others]"
             }
             Meaning::RecoveredToo => {
-                "another of these\n[possible values: bundle, runc, calls, without-x32]"
+                "another of these\n[possible values: bundle, runc, calls, without-x32, others]"
             }
             Meaning::Certified => {
                 "the filter is of runc, which puts its ENOSYS stub in front; or all calls are reported that differ; or\nnumbers that no table has are left aside, or all calls of x32\n[possible values: runc, all, calls, without-x32]"
@@ -134,6 +134,7 @@ impl Meaning {
                 "runc",
                 "calls",
                 "without-x32",
+                "others",
             ],
             Meaning::Compared => &["atmost", "filters"],
             _ => &[],

@@ -196,7 +196,8 @@ const RECOVER: &str =
 are, as certify shows it. With bundle it writes the config.json of runc and crun.
 With runc, it is the section of the filter behind the stub that runc puts in front. With calls, numbers
 that no table has are left aside if section and filter differ on them; with without-x32, all calls of
-x32 are. Standard error lists these, and the calls that the stub answers ENOSYS.
+x32 are. Standard error lists these, and the calls that the stub answers ENOSYS. With others, the filter
+allows the calls of all machines that it does not know, as systemd's do; x-ccell-otherMachines tells it.
 Status 0, or 1 if no section means the same, with a call that shows why.
 
 Example: ccell recover linux-x86-64 container.bpf runc without-x32 > container.json

@@ -1,6 +1,6 @@
 use Rattle.std.proofs.Common.{ℕ, List, [], ◌∷◌, map, subst, sym}
 use Rattle.cli.specs.Files.{HasEnoughFilter}
-use Rattle.cli.specs.Recovered.{TellsAsked, leaves_out}
+use Rattle.cli.specs.Recovered.{TellsAsked, allows_others}
 use Rattle.cli.proofs.FileLaws.{recovered_of_file}
 use Rattle.cli.proofs.recovering.bundle_of_file.Goals as goal
 
@@ -13,5 +13,5 @@ returns-in-Ok-bundle_by g c =
       (read.has.is, tt),
       subst (λ (f : List ℕ). TellsAsked c.args.native words f c.in-Ok-bundle_by.both.told) read.has.read
           (recovered_of_file read.filter c.deref.result.now read.enough c.args.native words c.in-Ok-bundle_by.both.told
-          (leaves_out words) c.in-Ok-bundle_by.ensures),
+          (allows_others words) c.in-Ok-bundle_by.ensures),
     )
