@@ -1,5 +1,5 @@
 -- THE PROGRAM. What it writes and the status that it ends with, of a command, of files, and of what is read on standard input.
-use Rattle.std.specs.Prelude.{ℕ, ◌≡◌, ◌⊎◌, ◌||◌, Bool, true, false, List, [], ◌∷◌, ◌++◌, codes}
+use Rattle.std.specs.Prelude.{ℕ, ◌≡◌, ◌≢◌, ◌⊎◌, ◌||◌, Bool, true, false, List, [], ◌∷◌, ◌++◌, codes}
 use Rattle.std.specs.Prelude.{if◌then◌else◌, map, Option, Some, None, Result, Ok, Err}
 use Rattle.std.specs.Str.{bytes_eq}
 use Rattle.call_tables.specs.declared.arch.Arch.{Arch}
@@ -13,6 +13,7 @@ use Rattle.command_line.specs.declared.prose.Command.TheVariants.{Replay, Recove
 use Rattle.command_line.specs.declared.prose.Command.TheVariants.{Json, Manual, Version}
 use Rattle.aside.specs.declared.leave.Leave.{Leave}
 use Rattle.aside.specs.Told.{CertifiesBut}
+use Rattle.cli.specs.Paged.{TellsPage, TellsPages}
 use Rattle.cli.specs.Parts.{Parts, form_of, part, parts_of}
 use Rattle.byte_order.specs.Turned.{read_as}
 use Rattle.texts.specs.Failures.{Failures}
@@ -297,6 +298,15 @@ module _ {O : Type 0} (held : O → Option (List ℕ)) (failures : O → Failure
   abbrev pub StopsAtWords : Result Bool Stop → Type 0
   StopsAtWords result = (result ≡ Err Usage) × (new ≡ old)
 
+  -- what `review` tells, by whether `html` stands behind two bundles, and whether behind one; something else asks for nothing
+  abbrev pub AnswersReview : Bool → Bool → Parts → Result Bool Stop → Type 0
+  AnswersReview true one p result =
+      AnswersTold (p.two ∷ p.three ∷ []) (of_two (OfBundles p.native (TellsPages p.native p.two p.three))) result
+  AnswersReview false true p result = AnswersTold (p.two ∷ []) (of_one (OfBundle p.native (TellsPage p.native p.two))) result
+  AnswersReview false false p result =
+      ((p.three ≡ []) × AnswersTold (p.two ∷ []) (of_one (OfBundle p.native (IsReviewed p.native))) result)
+      ⊎ ((p.three ≢ []) × StopsAtWords result)
+
   -- the program stops at words of which one names no group that there is
   abbrev pub StopsAtGroups : List (List ℕ) → Result Bool Stop → Type 0
   StopsAtGroups words result = OneIsUnknown (groups_in words) × StopsAtWords result
@@ -465,7 +475,8 @@ module _ {I O : Type 0} (left : I → Option (List ℕ)) (given : I → Failures
   DoesWith Stack p result = (input' ≡ input) × AnswersStack held taken folder out out' p.native p.from_two result
   DoesWith Flatten p result = (input' ≡ input) × AnswersTold held taken folder out out' p.from_two (TellsFlat p.native) result
   DoesWith Review p result =
-      (input' ≡ input) × AnswersTold held taken folder out out' (p.two ∷ []) (of_one (OfBundle p.native (IsReviewed p.native))) result
+      (input' ≡ input)
+      × AnswersReview held taken folder out out' (bytes_eq p.four (codes "html")) (bytes_eq p.three (codes "html")) p result
   DoesWith Json p result = (input' ≡ input) × StopsAtWords held taken folder out out' result
   DoesWith Manual p result = (input' ≡ input) × AnswersManual held taken folder out out' p.first result
   DoesWith Version p result = (input' ≡ input) × AnswersTold held taken folder out out' [] (of_none IsVersion) result

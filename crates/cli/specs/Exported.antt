@@ -1,4 +1,4 @@
--- What `export` tells of a bundle for a big-endian machine.
+-- What `export` tells of a bundle, as a machine has it.
 use Rattle.std.specs.Prelude.{ℕ, ◌≡◌, Bool, true, false, List, [], Ok}
 use Rattle.call_tables.specs.declared.arch.Arch.{Arch}
 use Rattle.byte_order.specs.Turned.{written_as}

@@ -22,6 +22,7 @@ pub mod Flat
 pub mod Widened
 pub mod Remarked
 pub mod Input
+pub mod Paged
 pub mod Parts
 pub mod Json
 pub mod Exported

@@ -33,8 +33,13 @@ fn file_of(
     }
 }
 
-// What is written of a bundle for a big-endian machine.
-fn exported(alloc: Global, native: Arch, bundle: &[u8], form: Form) -> Result<Told, AllocError>
+/// What is written of a bundle for a machine.
+pub(crate) fn exported(
+    alloc: Global,
+    native: Arch,
+    bundle: &[u8],
+    form: Form,
+) -> Result<Told, AllocError>
     ensures { IfOk result (TellsExported native form bundle.now) }
 {
     let mut kept = ToWrite::new(Vec::new(alloc));

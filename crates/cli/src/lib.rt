@@ -29,6 +29,7 @@ mod parts;
 mod program;
 mod recovering;
 mod remarking;
+mod reviewing;
 mod run;
 mod showing;
 mod stops;

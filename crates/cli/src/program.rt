@@ -28,10 +28,11 @@ use crate::objects::{is_json, write_answer};
 use crate::parts::{Form, Parts, form_of, parts_of};
 use crate::recovering::recovered;
 use crate::remarking::remark_on;
+use crate::reviewing::review_as;
 use crate::run::run_bundles;
 use crate::showing::{annotated, drawn, read_out, rules};
 use crate::stops::Stop;
-use crate::telling::{assembled, compare_as, linted, record, reviewed, tell, tell_both};
+use crate::telling::{assembled, compare_as, linted, record, tell, tell_both};
 use crate::tuning::filter_for_counts;
 use call_tables::Arch;
 use command_line::{Command, CommandLine, read_arguments};
@@ -213,7 +214,7 @@ fn obey<'a, F: Files, I: Source, O: Sink, E: Sink>(
         }
         Command::Stack => tell_both(stacked(alloc, native, parts.from_two, files), out, err),
         Command::Flatten => tell(flattened(alloc, native, parts.from_two, files), out),
-        Command::Review => tell(reviewed(alloc, native, parts.two, files), out),
+        Command::Review => review_as(alloc, parts, files, out),
         Command::Json => Err(Stop::Usage),
         Command::Manual => tell(manual(alloc, parts.first), out),
         Command::Version => tell(version(alloc), out),

@@ -33,13 +33,18 @@ fn bundle_names<'a>(command: Command, parts: &Parts<'a>) -> &'a [&'a str]
         | Command::Lint
         | Command::Read
         | Command::Replay
-        | Command::Review
         | Command::Tune => first(parts.from_two, 1),
         Command::Compare => {
             if parts.four == "filters" {
                 return first(parts.from_two, 0);
             }
             first(parts.from_two, 2)
+        }
+        Command::Review => {
+            if parts.four == "html" {
+                return first(parts.from_two, 2);
+            }
+            first(parts.from_two, 1)
         }
         Command::Join | Command::Meet | Command::Run => parts.from_two,
         Command::Learn => match from_in(parts.from_two) {

@@ -3,7 +3,7 @@ use Rattle.std.specs.Prelude.{ℕ, List, [], ◌∷◌, map, codes}
 use denote.Ref.{Bor}
 use Rattle.command_line.specs.declared.meanings.Meaning.{Meaning}
 use Rattle.command_line.specs.declared.meanings.Meaning.TheVariants.{Machine, Form, Certified, CertifiedToo}
-use Rattle.command_line.specs.declared.meanings.Meaning.TheVariants.{ReadAs, ShownAs, Recovered, RecoveredToo, Compared, Judge}
+use Rattle.command_line.specs.declared.meanings.Meaning.TheVariants.{ReadAs, ReviewedBoth, ShownAs, Recovered, RecoveredToo, Compared, Judge}
 use Rattle.command_line.specs.declared.prose.Command.{Command}
 use Rattle.command_line.specs.declared.table.TheConstants.{COMMANDS}
 
@@ -53,6 +53,7 @@ words_of Judge =
 words_of Certified = codes "runc" ∷ codes "all" ∷ codes "calls" ∷ codes "without-x32" ∷ []
 words_of CertifiedToo = codes "runc" ∷ codes "all" ∷ codes "calls" ∷ codes "without-x32" ∷ []
 words_of ReadAs = codes "rules" ∷ []
+words_of ReviewedBoth = codes "html" ∷ []
 words_of ShownAs = codes "cost" ∷ []
 words_of Recovered = codes "bundle" ∷ codes "runc" ∷ codes "calls" ∷ codes "without-x32" ∷ codes "others" ∷ []
 words_of RecoveredToo = codes "bundle" ∷ codes "runc" ∷ codes "calls" ∷ codes "without-x32" ∷ codes "others" ∷ []

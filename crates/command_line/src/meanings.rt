@@ -12,6 +12,8 @@ pub enum Meaning {
     New,
     Compared,
     ReadAs,
+    Reviewed,
+    ReviewedBoth,
     Filter,
     Filters,
     ShownAs,
@@ -51,6 +53,12 @@ impl Meaning {
             }
             Meaning::ReadAs => {
                 "the profile is written as a line for each rule, for another program\n[possible values: rules]"
+            }
+            Meaning::Reviewed => {
+                "the answer is written as a page for a browser; or a second bundle, to be shown beside the first\n[possible values: html]"
+            }
+            Meaning::ReviewedBoth => {
+                "behind a second bundle, which has no other answer\n[possible values: html]"
             }
             Meaning::Filter => { "a file with instructions of eight bytes" }
             Meaning::Filters => {
@@ -128,6 +136,7 @@ impl Meaning {
             ],
             Meaning::Certified | Meaning::CertifiedToo => &["runc", "all", "calls", "without-x32"],
             Meaning::ReadAs => &["rules"],
+            Meaning::ReviewedBoth => &["html"],
             Meaning::ShownAs => &["cost"],
             Meaning::Recovered | Meaning::RecoveredToo => &[
                 "bundle",

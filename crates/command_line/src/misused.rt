@@ -275,6 +275,7 @@ fn put_known(
 fn put_nothing(text: &mut String, entry: &Entry, words: &[&str]) -> Result<(), AllocError> {
     match (entry.4, words) {
         (Command::Manual, [word, ..]) => write!(text, "{word} is no COMMAND"),
+        (Command::Review, [_, _, word]) => write!(text, "html is missing behind {word}"),
         _ => text.push_str("these words ask for nothing"),
     }
 }

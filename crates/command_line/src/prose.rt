@@ -251,8 +251,10 @@ Example: ccell flatten linux-x86-64 1234.1.bpf 1234.0.bpf > process.bpf
 
 const REVIEW: &str =
     "Reports what a bundle leaves open of the calls by which a kernel is attacked most, group by group.
-Of each call it is decided for all arguments whether the bundle lets it through.
-Status 0, or 4 if the bundle is refused.
+Of each call it is decided for all arguments whether the bundle lets it through. With html it writes a page
+for a browser, with the graph of the bundle's filter; with a second bundle and html, a page on which both
+stand side by side, with what compare tells of them. A page has no scripts, and nothing from elsewhere.
+Status 0, also if two bundles differ, or 4 if a bundle is refused.
 
 Example: ccell review linux-x86-64 web.json
 ";

@@ -33,6 +33,10 @@ const COMPARED: Part = ("WORD", Meaning::Compared);
 
 const READ_AS: Part = ("WORD", Meaning::ReadAs);
 
+const REVIEWED: Part = ("WORD", Meaning::Reviewed);
+
+const REVIEWED_BOTH: Part = ("OTHER", Meaning::ReviewedBoth);
+
 const FILTER: Part = ("FILTER", Meaning::Filter);
 
 const FILTERS: Part = ("FILTER", Meaning::Filters);
@@ -256,8 +260,8 @@ pub const COMMANDS: &[Entry] = &[
     ),
     (
         "review",
-        (2, 2),
-        &[MACHINE, BUNDLE],
+        (2, 4),
+        &[MACHINE, BUNDLE, REVIEWED, REVIEWED_BOTH],
         "what a bundle leaves open of the calls by which a kernel is attacked most",
         Command::Review,
     ),

@@ -6,7 +6,6 @@ use Rattle.std.proofs.lemmas.Bool.{eq-eqb, ne_eqb}
 use Rattle.std.specs.Prelude.{◌==◌, Option, Some, None, MatchOption}
 use Rattle.std.specs.Option.{option_map}
 use denote.Ref.{Bor}
-use Rattle.texts.specs.Lines.{line_feed}
 use Rattle.texts.specs.Splits.{split_at}
 use Rattle.texts.proofs.Splits.{Lacks, lacks_append, split_at_first, split_at_lacks, split_at_sound}
 use Rattle.json_lines.specs.Lines.{in_front, parts_by}
@@ -51,33 +50,33 @@ parts_some end (b ∷ text) p e = parts_split end (b ∷ text) (Some p) e (λ n.
 pub parts_none : (end : ℕ) (text : List ℕ) → split_at end text ≡ None → text ≢ [] → parts_by end text ≡ text ∷ []
 parts_none end text e some = parts_split end text None e some
 
--- ---- the lines so far, in front of those that are left
+-- ---- the parts so far, in front of those that are left
 
-pub lines_step : (all : List (List ℕ)) (items : List (Bor (List ℕ))) (line : Bor (List ℕ)) (more rest : List ℕ)
-    → all ≡ texts items ++ parts_by line_feed rest → split_at line_feed rest ≡ Some (line.now, more)
-    → all ≡ texts (items ++ line ∷ []) ++ parts_by line_feed more
-lines_step all items line more rest h e =
-    h ∙ ap (λ ls. texts items ++ ls) (parts_some line_feed rest (line.now, more) e)
-    ∙ sym (append_assoc (texts items) (line.now ∷ []) (parts_by line_feed more))
-    ∙ ap (λ ls. ls ++ parts_by line_feed more) (sym (map-append (λ (l : Bor (List ℕ)). l.now) items (line ∷ [])))
+pub parts_step : (end : ℕ) (all : List (List ℕ)) (items : List (Bor (List ℕ))) (line : Bor (List ℕ)) (more rest : List ℕ)
+    → all ≡ texts items ++ parts_by end rest → split_at end rest ≡ Some (line.now, more)
+    → all ≡ texts (items ++ line ∷ []) ++ parts_by end more
+parts_step end all items line more rest h e =
+    h ∙ ap (λ ls. texts items ++ ls) (parts_some end rest (line.now, more) e)
+    ∙ sym (append_assoc (texts items) (line.now ∷ []) (parts_by end more))
+    ∙ ap (λ ls. ls ++ parts_by end more) (sym (map-append (λ (l : Bor (List ℕ)). l.now) items (line ∷ [])))
 
-pub lines_last : (all : List (List ℕ)) (items : List (Bor (List ℕ))) (rest : Bor (List ℕ))
-    → all ≡ texts items ++ parts_by line_feed rest.now → split_at line_feed rest.now ≡ None → rest.now ≢ []
+pub parts_last : (end : ℕ) (all : List (List ℕ)) (items : List (Bor (List ℕ))) (rest : Bor (List ℕ))
+    → all ≡ texts items ++ parts_by end rest.now → split_at end rest.now ≡ None → rest.now ≢ []
     → texts (items ++ rest ∷ []) ≡ all
-lines_last all items rest h e some =
+parts_last end all items rest h e some =
     map-append (λ (l : Bor (List ℕ)). l.now) items (rest ∷ [])
-    ∙ sym (h ∙ ap (λ ls. texts items ++ ls) (parts_none line_feed rest.now e some))
+    ∙ sym (h ∙ ap (λ ls. texts items ++ ls) (parts_none end rest.now e some))
 
 -- ---- where a text is split
 
-pub split_here : (text : List ℕ) (at : ℕ) → at < length text → get_or text at 0 ≡ line_feed → Lacks line_feed (take at text)
-    → split_at line_feed text ≡ Some (take at text, drop (at + 1) text)
-split_here text at l is lacks =
-    let parts : text ≡ take at text ++ (line_feed ∷ drop (at + 1) text) =
+pub split_here : (byte : ℕ) (text : List ℕ) (at : ℕ) → at < length text → get_or text at 0 ≡ byte → Lacks byte (take at text)
+    → split_at byte text ≡ Some (take at text, drop (at + 1) text)
+split_here byte text at l is lacks =
+    let parts : text ≡ take at text ++ (byte ∷ drop (at + 1) text) =
     sym (take-append-drop at text) ∙ ap (λ (t : List ℕ). take at text ++ t) (drop_more text at 0 l ∙ ap (λ b. b ∷ drop (at + 1) text) is) in
-    ap (split_at line_feed) parts ∙ split_at_first line_feed (take at text) (drop (at + 1) text) lacks
+    ap (split_at byte) parts ∙ split_at_first byte (take at text) (drop (at + 1) text) lacks
 
-pub lacks_more : (text : List ℕ) (at : ℕ) → at < length text → get_or text at 0 ≢ line_feed → Lacks line_feed (take at text)
-    → Lacks line_feed (take (at + 1) text)
-lacks_more text at l other lacks =
-    subst (Lacks line_feed) (sym (take_more text at 0 l)) (lacks_append line_feed (take at text) (get_or text at 0 ∷ []) lacks (other, tt))
+pub lacks_more : (byte : ℕ) (text : List ℕ) (at : ℕ) → at < length text → get_or text at 0 ≢ byte → Lacks byte (take at text)
+    → Lacks byte (take (at + 1) text)
+lacks_more byte text at l other lacks =
+    subst (Lacks byte) (sym (take_more text at 0 l)) (lacks_append byte (take at text) (get_or text at 0 ∷ []) lacks (other, tt))

@@ -9,5 +9,6 @@ mod table;
 mod writing;
 
 pub use law::{answers_are_kept, lines_are_kept, objects_are_read};
+pub use splitting::{count_of_details, lines_of, parts_of, said, split};
 pub use table::{Entry, TABLE};
 pub use writing::{certificate, lines};

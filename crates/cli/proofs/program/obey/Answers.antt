@@ -10,7 +10,6 @@ use Rattle.cli.specs.Flat.{TellsFlat}
 use Rattle.cli.specs.Recovered.{TellsAsked, has_word}
 use Rattle.cli.specs.Written.{WritesMade}
 use Rattle.cli.specs.Tuned.{TellsTuned}
-use Rattle.review.specs.Reviewed.{IsReviewed}
 use Rattle.together.specs.declared.way.Way.TheVariants.{Laxest, Strictest}
 use Rattle.cli.specs.inner.Telling.{told_in}
 use Rattle.cli.specs.Read.{TellsLinted}
@@ -159,11 +158,4 @@ returns-in-Flatten-clause-does g c = rw c.in-Flatten.is (
   refl,
   answers_told g.O.Sink.held g.O.Sink.failures (g.F.Files.folder c.args.files.now) (texts c.args.parts.from_two.now) (TellsFlat c.args.parts.native)
       c.args.out.now c.tell-in-Flatten.new.out c.tell-in-Flatten.result c.flattened.result c.flattened.ensures c.tell-in-Flatten.ensures,
-)
-
-pub returns-in-Review-clause-does : goal.returns-in-Review-clause-does
-returns-in-Review-clause-does g c = rw c.in-Review.is (
-  refl,
-  answers_told g.O.Sink.held g.O.Sink.failures (g.F.Files.folder c.args.files.now) (c.args.parts.two.now ∷ []) (of_one (OfBundle c.args.parts.native (IsReviewed c.args.parts.native)))
-      c.args.out.now c.tell-in-Review.new.out c.tell-in-Review.result c.reviewed.result c.reviewed.ensures c.tell-in-Review.ensures,
 )
