@@ -1,2 +1,3 @@
+pub mod Grouped
 pub mod Markup
 pub mod Rows

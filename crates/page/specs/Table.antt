@@ -10,10 +10,10 @@ abbrev pub name_of : Group → Text
 name_of group = up_to 58 (past space group.0)
 
 abbrev pub state_of : Group → Text
-state_of group = up_to 59 (past 58 group.0)
+state_of group = up_to 59 (past space (past 58 group.0))
 
 abbrev pub why_of : Group → Text
-why_of group = past 59 group.0
+why_of group = past space (past 59 group.0)
 
 -- a line below that
 abbrev pub detail_text : Text → Text

@@ -11,7 +11,7 @@ pub(crate) const FRONT: &str = "<!DOCTYPE html>
 body { font-family: sans-serif; margin: 2em; }
 table { border-collapse: collapse; }
 th, td { border: 1px solid silver; padding: 0.3em 0.6em; text-align: left; vertical-align: top; }
-td div { font-family: monospace; }
+td div { font-family: monospace; padding-left: 1em; text-indent: -1em; }
 td.refused { background: honeydew; }
 td.open { background: mistyrose; }
 td.part { background: cornsilk; }

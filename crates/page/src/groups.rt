@@ -1,5 +1,5 @@
 //! The groups that a review tells of.
-ghost use Rattle.std.specs.Prelude.{◌≡◌, ◌∷◌, IfOk};
+ghost use Rattle.std.specs.Prelude.{◌≡◌, ◌≤◌, ◌<◌, ◌∷◌, IfOk, drop, length};
 ghost use Rattle.json_lines.specs.Lines.{groups_of as groups_in};
 ghost use Rattle.json_lines.specs.inner.Views.{texts};
 ghost use Rattle.page.specs.Table as spec;
@@ -16,12 +16,20 @@ pub(crate) struct Group<'a> {
     pub(crate) details: &'a [&'a [u8]],
 }
 
-// The group of a line in front of others, and the lines behind it.
-fn first_group<'a>(head: &'a [u8], more: &'a [&'a [u8]]) -> (Group<'a>, &'a [&'a [u8]])
-    ensures { groups_in (head.entry.now ∷ texts more.entry.now) ≡ group result.0 ∷ groups_in (texts result.1.now) }
+// The group that begins at a place of lines, and the place behind it.
+fn group_at<'a>(lines: &'a [&'a [u8]], at: usize) -> (Group<'a>, usize)
+    requires { at < length lines.now }
+    ensures group { groups_in (texts (drop at lines.entry.now)) ≡ group result.0 ∷ groups_in (texts (drop result.1 lines.entry.now)) }
+    ensures later { at < result.1 }
+    ensures within { result.1 ≤ length lines.entry.now }
 {
-    let (details, rest) = more.split_at(count_of_details(more));
-    (Group { head, details }, rest)
+    let more = &lines[at + 1..];
+    let count = count_of_details(more);
+    let group = Group {
+        head: lines[at],
+        details: &more[..count],
+    };
+    (group, at + 1 + count)
 }
 
 /// The groups of lines.
@@ -32,11 +40,11 @@ pub(crate) fn groups_of<'a>(
     ensures { IfOk result (λ found. groups found.items ≡ groups_in (texts lines.entry.now)) }
 {
     let mut found = Vec::new(alloc);
-    let mut left = lines;
-    'group: while let [head, more @ ..] = left {
-        let (group, rest) = first_group(head, more);
+    let mut at = 0;
+    'group: while at < lines.len() {
+        let (group, next) = group_at(lines, at);
         found.push(group)?;
-        left = rest;
+        at = next;
     }
     Ok(found)
 }
@@ -53,13 +61,13 @@ impl<'a> Group<'a> {
     pub(crate) fn state(&self) -> &'a [u8]
         ensures { result.now ≡ spec.state_of (group self.now) }
     {
-        up_to(past(self.head, b':'), b';')
+        up_to(past(past(self.head, b':'), b' '), b';')
     }
 
     /// Why it matters.
     pub(crate) fn why(&self) -> &'a [u8]
         ensures { result.now ≡ spec.why_of (group self.now) }
     {
-        past(self.head, b';')
+        past(past(self.head, b';'), b' ')
     }
 }

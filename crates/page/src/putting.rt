@@ -13,7 +13,10 @@ fn put_byte(page: &mut Vec<u8>, byte: u8) -> Result<(), AllocError>
         b'<' => page.extend_from_slice(b"&lt;"),
         b'>' => page.extend_from_slice(b"&gt;"),
         b'"' => page.extend_from_slice(b"&quot;"),
-        _ => page.push(byte),
+        _ => {
+            page.push(byte)?;
+            Ok(())
+        }
     }
 }
 

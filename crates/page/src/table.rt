@@ -36,7 +36,7 @@ fn put_cell(page: &mut Vec<u8>, group: &Group<'_>) -> Result<(), AllocError>
 
 // Adds what the other profile leaves open of a group, if there is one.
 fn put_other(page: &mut Vec<u8>, other: Option<&Group<'_>>) -> Result<(), AllocError>
-    ensures { OnOk result (page.new.items ≡ page.old.items ++ other_cell (option_map (λ g. group_view g.now) other)) }
+    ensures { OnOk result (page.new.items ≡ page.old.items ++ other_cell (option_map (λ g. group_view g.now) other.entry)) }
 {
     match other {
         Some(group) => put_cell(page, group),
@@ -51,7 +51,7 @@ fn put_row(
     other: Option<&Group<'_>>,
 ) -> Result<(), AllocError>
     ensures { OnOk result (page.new.items
-        ≡ page.old.items ++ spec.row (group_view group.now) (other_cell (option_map (λ g. group_view g.now) other))) }
+        ≡ page.old.items ++ spec.row (group_view group.now) (other_cell (option_map (λ g. group_view g.now) other.entry))) }
 {
     put(page, "<tr><th>", group.name())?;
     put(page, "</th><td>", group.why())?;

@@ -1,5 +1,5 @@
 -- What the code's values stand for.
-use Rattle.std.specs.Prelude.{List, map, Option, Some, None}
+use Rattle.std.specs.Prelude.{List, [], map, Option, Some, None}
 use Rattle.json_lines.specs.Lines as lines
 use Rattle.json_lines.specs.inner.Tokens.{said}
 use Rattle.json_lines.specs.inner.Views.{texts}
