@@ -72,6 +72,7 @@ fn page_text(alloc: Global, native: Arch, name: &str, bundle: &[u8]) -> Result<T
 }
 
 // A bundle, and what is told of it.
+#[derive(Clone, Copy)]
 struct Reviewed<'a> {
     name: &'a str,
     bundle: &'a [u8],

@@ -19,11 +19,13 @@ why_of group = past space (past 59 group.0)
 abbrev pub detail_text : Text → Text
 detail_text detail = codes "<div>" ++ shown detail ++ codes "</div>"
 
--- what a profile leaves open of a group, in the colour of its state
+-- a state, in its colour
+abbrev pub state_text : Text → Text
+state_text state = codes "<td class=\"" ++ shown state ++ codes "\"><b>" ++ shown state ++ codes "</b>"
+
+-- what a profile leaves open of a group
 abbrev pub cell : Group → Text
-cell group =
-    codes "<td class=\"" ++ shown (state_of group) ++ codes "\"><b>" ++ shown (state_of group) ++ codes "</b>"
-    ++ flat_map detail_text group.1 ++ codes "</td>"
+cell group = state_text (state_of group) ++ flat_map detail_text group.1 ++ codes "</td>"
 
 -- a group, and what another profile leaves open of it
 abbrev pub row : Group → Text → Text

@@ -22,14 +22,20 @@ fn put_details(page: &mut Vec<u8>, details: &[&[u8]]) -> Result<(), AllocError>
     Ok(())
 }
 
+// Adds a state, in its colour.
+fn put_state(page: &mut Vec<u8>, state: &[u8]) -> Result<(), AllocError>
+    ensures { OnOk result (page.new.items ≡ page.old.items ++ spec.state_text state.now) }
+{
+    put(page, "<td class=\"", state)?;
+    put(page, "\"><b>", state)?;
+    put_markup(page, "</b>")
+}
+
 // Adds what a profile leaves open of a group.
 fn put_cell(page: &mut Vec<u8>, group: &Group<'_>) -> Result<(), AllocError>
     ensures { OnOk result (page.new.items ≡ page.old.items ++ spec.cell (group_view group.now)) }
 {
-    let state = group.state();
-    put(page, "<td class=\"", state)?;
-    put(page, "\"><b>", state)?;
-    put_markup(page, "</b>")?;
+    put_state(page, group.state())?;
     put_details(page, group.details)?;
     put_markup(page, "</td>")
 }
