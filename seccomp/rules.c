@@ -85,7 +85,7 @@ const struct rule *whole_rule(const struct filter *filter, int call, int number,
 
 uint32_t counting(const struct filter *filter, const struct rule *rule) {
     uint32_t machines = rule->machines;
-    for (int machine = 0; settles && machine < MACHINES; machine++) {
+    for (int machine = 0; !is_strict && machine < MACHINES; machine++) {
         const struct rule *whole = machines >> machine & 1 ? whole_rule(filter, rule->call, rule->number, machine) : NULL;
         if (!whole || whole == rule) continue;
         machines &= ~(1u << machine);
