@@ -1,6 +1,6 @@
 -- What is kept of a line that is too long is no command either.
 use Rattle.std.proofs.Common.{◌≡◌, ℕ, ◌≤◌, ◌<◌, inl, inr, List, [], ◌∷◌, ◌++◌, length, refl, ap, sym, subst, ◌∙◌, arith, length-append}
-use Rattle.std.specs.Prelude.{Option, Some, None}
+use Rattle.std.specs.Prelude.{◌⊎◌, Option, Some, None}
 use Rattle.std.proofs.lemmas.Bool.{cases_lt}
 use Rattle.std.proofs.lemmas.List.{length-take, take-append-le, take_all}
 use Rattle.call_tables.specs.declared.arch.Arch.{Arch}
@@ -20,7 +20,8 @@ kept_all : (part : List ℕ) → length part ≤ 70001 → kept_of part ≡ part
 kept_all part h = take_all 70001 part h
 
 -- what is no command
-line_long : (native : Arch) (part : List ℕ) (o : Option script.Command) → 70001 < length part → LineIs native (kept_of part) o → LineIs native part o
+line_long : (native : Arch) (part : List ℕ) (o : Option script.Command) → 70001 < length part → LineIs native (kept_of part) o
+    → LineIs native part o
 line_long native part (Some asked) long h = absurd (omega (arith, h.short, length-take 70001 part))
 line_long native part None long h = λ asked g. omega (arith, g.short)
 
@@ -46,7 +47,10 @@ is_long bundles part c long h =
 
 -- it is the same command
 pub kept_is : (bundles : Bundles) (part : List ℕ) (c : Option Command) → CommandIs bundles (kept_of part) c → CommandIs bundles part c
-kept_is bundles part c h = elim (cases_lt 70001 (length part)) [ inl long ↦ is_long bundles part c long h | inr le ↦ subst (λ (line : List ℕ). CommandIs bundles line c) (kept_all part le) h ]
+kept_is bundles part c h = by_length (cases_lt 70001 (length part)) where
+  by_length : (70001 < length part) ⊎ (length part ≤ 70001) → CommandIs bundles part c
+  by_length (inl long) = is_long bundles part c long h
+  by_length (inr le) = subst (λ (line : List ℕ). CommandIs bundles line c) (kept_all part le) h
 
 -- one byte more, where there is room
 pub kept-more : (part items : List ℕ) (byte : ℕ) → items ≡ kept_of part → length items ≤ 70000

@@ -63,4 +63,5 @@ mark_lacks = ((λ e. omega arith), (λ e. omega arith), tt)
 pub number_lacks : (text : List ℕ) (n : ℕ) → IsNumber text n → Lacks space text
 number_lacks text n (small, inl w) = digits_lack is_ascii_digit refl text w.digits
 number_lacks text n (small, inr w) =
-    subst (λ (t : List ℕ). Lacks space t) (sym w.marked) (lacks_append space (codes "0x") w.ds mark_lacks (digits_lack is_hexadecimal_digit refl w.ds w.written.digits))
+    subst (λ (t : List ℕ). Lacks space t) (sym w.marked)
+    (lacks_append space (codes "0x") w.ds mark_lacks (digits_lack is_hexadecimal_digit refl w.ds w.written.digits))

@@ -71,7 +71,8 @@ module _ (one : OneCommand) (bundles : Bundles) where
       let parted = one_parting (family_of bundles.native) line h.call g.call h.response g.response h.parts g.parts in
       let is : LineIs bundles.native g.call h.asked = subst (λ (c : List ℕ). LineIs bundles.native c h.asked) parted.0 h.is in
       let asked : h.asked ≡ g.asked = one bundles.native g.call h.asked g.asked is g.is in
-      let meant : LineMeans bundles g.asked h.response a = subst (λ (o : Option script.Command). LineMeans bundles o h.response a) asked h.meant in
+      let meant : LineMeans bundles g.asked h.response a =
+      subst (λ (o : Option script.Command). LineMeans bundles o h.response a) asked h.meant in
       line_means_one bundles g.asked g.response a b (subst (λ (r : Option Response). LineMeans bundles g.asked r a) parted.1 meant) g.meant
 
   lines_one : (lines : List (List ℕ)) (a b : List (Option Command)) → CommandsAre bundles lines a → CommandsAre bundles lines b → a ≡ b

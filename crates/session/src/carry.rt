@@ -162,7 +162,8 @@ impl<'a> Session<'a> {
     ) -> Result<Option<Reply>, AllocError>
         requires { Fits (requests.command_of request.now) }
         ensures bundles { self.new.bundles ≡ self.old.bundles }
-        ensures done { CarriesOut self.old.bundles (requests.command_of request.now) response (world_of self.old.runtime) (world_of self.new.runtime) result }
+        ensures done { CarriesOut self.old.bundles (requests.command_of request.now) response
+            (world_of self.old.runtime) (world_of self.new.runtime) result }
     {
         match program_beside(request) {
             None => obey(
