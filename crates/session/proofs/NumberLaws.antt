@@ -1,15 +1,16 @@
 -- A text is read as a number exactly where it is one, and has no space then.
 use Rattle.std.proofs.Common.{◌≡◌, ◌≢◌, ℕ, ◌<◌, ◌^◌, true, false, cond, List, [], ◌∷◌, ◌++◌, refl, ap, ◌∙◌, inl, inr, subst, sym, arith}
-use Rattle.std.specs.Prelude.{Option, Some, None, codes, Bool}
+use Rattle.std.specs.Prelude.{◌==◌, not, Option, Some, None, codes, Bool}
 use Rattle.std.specs.Char.{is_ascii_digit}
 use Rattle.std.specs.List.{list_all}
-use Rattle.std.proofs.lemmas.Bool.{and_parts}
+use Rattle.std.proofs.lemmas.Bool.{and_parts, eqb-false, not-true}
 use Rattle.texts.specs.Digits.{are_digits, is_hexadecimal_digit}
 use Rattle.texts.specs.Lines.{space}
 use Rattle.texts.specs.Splits.{behind}
 use Rattle.texts.specs.Numbers.{IsDecimal, decimal_at}
 use Rattle.texts.proofs.Splits.{Lacks, behind_sound, lacks_append}
 use Rattle.texts.proofs.NumberLaws.{decimal_at-is, decimal_at-some, hexadecimal_at-is, hexadecimal_at-some}
+use Rattle.script.specs.Grammar.{lacks}
 use Rattle.script.specs.Numbers.{IsNumber}
 use Rattle.script.specs.inner.Reading.{marked_number, number_at}
 
@@ -44,24 +45,28 @@ pub continue_is_none : number_at (codes "continue") ≡ None
 unfolding number_at decimal_at
 continue_is_none = refl
 
--- a space is no digit
+-- A number has no space.
+
+pub from_test : (text : List ℕ) → lacks space text ≡ true → Lacks space text
+from_test [] h = tt
+from_test (b ∷ text) h =
+    let parts = and_parts (not (b == space)) (lacks space text) h in
+    (eqb-false b space (not-true (b == space) parts.0), from_test text parts.1)
+
 all_lack : (is_digit : ℕ → Bool) → is_digit space ≡ false → (ds : List ℕ) → list_all is_digit ds ≡ true → Lacks space ds
-all_lack is_digit no [] h = tt
-all_lack is_digit no (d ∷ ds) h =
+all_lack is_digit other [] h = tt
+all_lack is_digit other (d ∷ ds) h =
     let parts = and_parts (is_digit d) (list_all is_digit ds) h in
-    ((λ e. not_it e parts.0), all_lack is_digit no ds parts.1) where
+    ((λ e. not_it e parts.0), all_lack is_digit other ds parts.1) where
       not_it : d ≡ space → is_digit d ≡ true → ⊥
       not_it e g = cc
 
 digits_lack : (is_digit : ℕ → Bool) → is_digit space ≡ false → (ds : List ℕ) → are_digits is_digit ds ≡ true → Lacks space ds
-digits_lack is_digit no [] h = tt
-digits_lack is_digit no (d ∷ ds) h = all_lack is_digit no (d ∷ ds) h
-
-mark_lacks : Lacks space (codes "0x")
-mark_lacks = ((λ e. omega arith), (λ e. omega arith), tt)
+digits_lack is_digit other [] h = tt
+digits_lack is_digit other (d ∷ ds) h = all_lack is_digit other (d ∷ ds) h
 
 pub number_lacks : (text : List ℕ) (n : ℕ) → IsNumber text n → Lacks space text
 number_lacks text n (small, inl w) = digits_lack is_ascii_digit refl text w.digits
 number_lacks text n (small, inr w) =
     subst (λ (t : List ℕ). Lacks space t) (sym w.marked)
-    (lacks_append space (codes "0x") w.ds mark_lacks (digits_lack is_hexadecimal_digit refl w.ds w.written.digits))
+    (lacks_append space (codes "0x") w.ds (from_test (codes "0x") refl) (digits_lack is_hexadecimal_digit refl w.ds w.written.digits))

@@ -55,5 +55,7 @@ split_is text (Some x) h =
     lacks_from_each space (drop j text) (λ k l. NoCharPasses-char space (drop j text) k h.2.0 (omega arith) l) in
     let cut : text ≡ take i text ++ space ∷ drop j text =
     sym (take-append-drop i text) ∙ ap (λ t. take i text ++ t) (drop_at_char space text i j h.2.1 (omega arith)) in
-    ap (λ (t : List ℕ). Some (t, x.1.now)) h.3 ∙ (ap (λ (t : List ℕ). Some (take i text, t)) h.4
+    let front : List ℕ → Option (List ℕ × List ℕ) = λ t. Some (t, x.1.now) in
+    let back : List ℕ → Option (List ℕ × List ℕ) = λ t. Some (take i text, t) in
+    ap front h.3 ∙ (ap back h.4
     ∙ (sym (split_last (take i text) (drop j text) behind) ∙ sym (ap last_split cut)))

@@ -84,8 +84,7 @@ fn ended(text: &str) -> Option<(&str, Response)>
 
 // The call and the response that a line says, if it says both.
 fn responding(line: &[u8]) -> Option<(&str, Response)>
-    ensures { MatchOption result ((call : List ℕ) (response : Response) → Responds line.now call response → ⊥)
-        (λ p. Responds line.now p.0.now p.1) }
+    ensures { MatchOption result ((call : List ℕ) (response : Response) → Responds line.now call response → ⊥) (λ p. Responds line.now p.0.now p.1) }
 {
     if line.len() > MAX_LINE {
         return None;

@@ -26,20 +26,26 @@ worded word n =
     else if bytes_eq word (codes "error") then error_at n
     else None
 
+-- a call before its response
+abbrev pub call_before : List ℕ → Response → Option (List ℕ × Response)
+call_before call response = Some (call, response)
+
+-- a call, and the word before this number
+abbrev pub before_number : ℕ → List ℕ × List ℕ → Option (List ℕ × Response)
+before_number n parts = worded parts.1 n >>= call_before parts.0
+
 -- a text that ends with the word before this number
 unfoldable pub numbered_end : List ℕ → ℕ → Option (List ℕ × Response)
-numbered_end text n = do
-  parts ← last_split text
-  r ← worded parts.1 n
-  Some (parts.0, r)
+numbered_end text n = last_split text >>= before_number n
 
 -- what the last field of a text says, by the number that it is
 abbrev pub ended_by : List ℕ × List ℕ → Option ℕ → Option (List ℕ × Response)
 ended_by parts (Some n) = numbered_end parts.0 n
 ended_by parts None = if bytes_eq parts.1 (codes "continue") then Some (parts.0, Continue) else None
 
+abbrev pub last_said : List ℕ × List ℕ → Option (List ℕ × Response)
+last_said parts = ended_by parts (number_at parts.1)
+
 -- the response at the end of a text, and what stands before it
 unfoldable pub ended_at : List ℕ → Option (List ℕ × Response)
-ended_at text = do
-  parts ← last_split text
-  ended_by parts (number_at parts.1)
+ended_at text = last_split text >>= last_said

@@ -13,5 +13,5 @@ returns-in_default-strip_prefix c = λ call response h. c.in_default-strip_prefi
 
 pub returns : goal.returns
 returns c =
-    read_is c.args.line.now c.in-Ok.text.now _ c.ended.result c.in-Ok.ensures.cases.0 c.if-line-gt-MAX_LINE.false c.in-Ok.ensures.cases.1
+    read_is c.args.line.now c.in-Ok.text.now (drop c.in-Some.ensures.cases.0 c.in-Ok.text.now) c.ended.result c.in-Ok.ensures.cases.0 c.if-line-gt-MAX_LINE.false c.in-Ok.ensures.cases.1
     c.in-Some.ensures.cases.1.1 c.ended.ensures
