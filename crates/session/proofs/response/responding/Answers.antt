@@ -1,4 +1,4 @@
-use Rattle.std.proofs.Common.{arith, drop, sym, ◌∙◌}
+use Rattle.std.proofs.Common.{arith, drop, ◌∙◌}
 use Rattle.session.proofs.ResponseLaws.{read_is}
 use Rattle.session.proofs.response.responding.Goals as goal
 
