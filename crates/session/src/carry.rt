@@ -118,10 +118,7 @@ fn command_of<'a, 'c, 'r: 'c>(
             nr,
             args,
             ..
-        } => {
-            let record = record_of(arch, nr, args);
-            Some(Command::Call(id, task, record, program, response))
-        }
+        } => Some(Command::Call(id, task, record_of(arch, nr, args), program, response)),
     }
 }
 
