@@ -111,8 +111,9 @@ int way_of(const struct rule *rule, int machine, uint64_t *first);
 /* What a rule without conditions says of that call there. */
 struct rule rule_of_way(const struct filter *filter, const struct rule *rule, int machine, int way, uint64_t first);
 
-/* Whether rules settle each other as in libseccomp: of a call's rules on a machine the first one without conditions counts alone. */
-extern bool settles;
+/* Whether what contradicts is refused. Otherwise rules settle each other as in libseccomp: of a call's rules on a machine the first one
+ * without conditions counts alone. */
+extern bool is_strict;
 /* Whether reasons are written to standard error. */
 extern bool writes_messages;
 

@@ -114,7 +114,7 @@ static int judge_way(const struct filter *filter, const struct rule *rule, int m
     int way = way_of(rule, machine, &first);
     if (way < 0) return 0;
     const struct rule *whole = whole_rule(filter, way, 0, machine);
-    if (whole) return settles || whole->action == rule->action ? 0 : contradicts_way(rule, whole, machine);
+    if (whole) return is_strict && whole->action != rule->action ? contradicts_way(rule, whole, machine) : 0;
     if (!rule->count) {
         struct rule other = rule_of_way(filter, rule, machine, way, first);
         return judge_overlaps(filter, &other, rule);
@@ -127,7 +127,7 @@ static int judge_way(const struct filter *filter, const struct rule *rule, int m
 /* Whether a rule for socketcall or ipc itself can stand beside what the rules before it say of these. */
 static int judge_calls_of_way(const struct filter *filter, const struct rule *rule, int machine) {
     if (!(rule->machines >> machine & 1) || (rule->call != call_named("socketcall") && rule->call != call_named("ipc"))) return 0;
-    if (!rule->count && settles) return 0;
+    if (!rule->count && !is_strict) return 0;
     for (size_t i = 0; i < filter->now.count; i++) {
         const struct rule *old = &filter->rules[i];
         uint64_t first;
@@ -221,7 +221,7 @@ static int judge_width(const struct rule *rule) {
 }
 
 int judge_rule(const struct filter *filter, const struct rule *rule) {
-    bool settles_all = settles && !rule->count; /* of this call, on its machines */
+    bool settles_all = !is_strict && !rule->count; /* of this call, on its machines */
     int error = judge_width(rule);
     if (!error && !settles_all) error = judge_overlaps(filter, rule, rule);
     return error ? error : judge_ways(filter, rule);

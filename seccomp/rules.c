@@ -5,7 +5,8 @@
 #include <stdlib.h>
 #include <string.h>
 
-/* The conditions in the order of arguments: 0, or -EINVAL where one is none or two are of one argument. */
+/* The conditions in the order of arguments: 0, or -EINVAL where one is no condition or two are of one argument. One under an empty mask
+ * holds of each number, and is left out, as in libseccomp. */
 static int read_conditions(struct rule *rule, unsigned count, const struct scmp_arg_cmp *args) {
     const struct scmp_arg_cmp *by_argument[ARGUMENTS] = {NULL};
     for (unsigned i = 0; i < count; i++) {
@@ -16,6 +17,7 @@ static int read_conditions(struct rule *rule, unsigned count, const struct scmp_
         const struct scmp_arg_cmp *from = by_argument[i];
         if (!from) continue;
         bool is_masked = from->op == MASKED_EQUAL; /* "equal to the masked datum value": no bit outside of the mask counts */
+        if (is_masked && !from->datum_a) continue;
         rule->conditions[rule->count++] = (struct ccell_condition){
             i, (uint32_t)from->op, from->datum_a, is_masked ? from->datum_b & from->datum_a : 0};
     }
@@ -85,7 +87,7 @@ const struct rule *whole_rule(const struct filter *filter, int call, int number,
 
 uint32_t counting(const struct filter *filter, const struct rule *rule) {
     uint32_t machines = rule->machines;
-    for (int machine = 0; settles && machine < MACHINES; machine++) {
+    for (int machine = 0; !is_strict && machine < MACHINES; machine++) {
         const struct rule *whole = machines >> machine & 1 ? whole_rule(filter, rule->call, rule->number, machine) : NULL;
         if (!whole || whole == rule) continue;
         machines &= ~(1u << machine);
@@ -168,7 +170,7 @@ static int add(struct filter *filter, bool exact, uint32_t action, int number, u
         return exact ? -EDOM : 0; /* no machine that is listed has the call */
     }
     uint64_t first;
-    if (exact && rule.count && rule.call >= 0 && rule.machines & WITH_WAYS && other_way(rule.call, &first) >= 0)
+    if (exact && count && rule.call >= 0 && rule.machines & WITH_WAYS && other_way(rule.call, &first) >= 0)
         return -EINVAL; /* as libseccomp: the machine has a way without these arguments */
     return append(filter, &rule);
 }

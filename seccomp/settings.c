@@ -9,14 +9,14 @@
 #include <sys/stat.h>
 #include <unistd.h>
 
-#ifndef SETTLES
-#define SETTLES "/etc/ccell/settles"
+#ifndef STRICT
+#define STRICT "/etc/ccell/strict"
 #endif
 #ifndef MESSAGES
 #define MESSAGES "/etc/ccell/messages"
 #endif
 
-bool settles, writes_messages;
+bool is_strict, writes_messages;
 
 /* Whether the owner alone can write this file or folder. In a user namespace root's files seem to be 65534's; then the caller must
  * not be able to write them either. */
@@ -43,6 +43,6 @@ static bool is_set(const char *file) {
 }
 
 __attribute__((constructor)) static void look_for_settings(void) {
-    settles = is_set(SETTLES);
+    is_strict = is_set(STRICT);
     writes_messages = secure_getenv("CCELL_MESSAGES") || is_set(MESSAGES);
 }

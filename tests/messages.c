@@ -32,15 +32,18 @@ static void tell(int came, int wanted, const char *what) {
     wrong++;
 }
 
+#define REASON "mkdirat (ERRNO 13 where arg0 != 0x5) contradicts mkdirat (ERRNO 1 where arg0 != 0x5)"
+
 /* Refuses a rule that contradicts another, so many times. 0 if each reason is there to ask for, and goes with the next call. */
 static int refuse_rules(int times) {
+    static const struct scmp_arg_cmp is = {0, NOT_EQUAL, 5, 0};
     scmp_filter_ctx ctx = seccomp_init(ALLOW);
-    int bad = seccomp_rule_add_array(ctx, ERRNO | 1, SYS_mkdirat, 0, NULL) != 0 || *ccell_why();
+    int bad = seccomp_rule_add_array(ctx, ERRNO | 1, SYS_mkdirat, 1, &is) != 0 || *ccell_why();
     for (int i = 0; i < times; i++) {
-        bad |= seccomp_rule_add_array(ctx, ERRNO | 13, SYS_mkdirat, 0, NULL) != -EEXIST;
-        bad |= strcmp(ccell_why(), "mkdirat (ERRNO 13) contradicts mkdirat (ERRNO 1)") != 0;
+        bad |= seccomp_rule_add_array(ctx, ERRNO | 13, SYS_mkdirat, 1, &is) != -EEXIST;
+        bad |= strcmp(ccell_why(), REASON) != 0;
     }
-    bad |= seccomp_rule_add_array(ctx, ERRNO | 1, SYS_mkdirat, 0, NULL) != 0 || *ccell_why();
+    bad |= seccomp_rule_add_array(ctx, ERRNO | 1, SYS_mkdirat, 1, &is) != 0 || *ccell_why();
     seccomp_release(ctx);
     return bad;
 }
@@ -68,7 +71,7 @@ static int ended(int standard_error, int times, bool asks) {
 
 /* How many lines came: -1 if one is not as it has to be. */
 static int lines_in(int from) {
-    static const char line[] = "libseccomp of ccell: mkdirat (ERRNO 13) contradicts mkdirat (ERRNO 1)\n";
+    static const char line[] = "libseccomp of ccell: " REASON "\n";
     char held[sizeof line];
     int count = 0;
     for (ssize_t got; (got = read(from, held, sizeof line - 1)) > 0; count++)

@@ -1,5 +1,6 @@
 -- What holds of every container, whatever was commanded before.
-use Rattle.std.specs.Prelude.{◌≡◌, ◌⊎◌, ◌&&◌, ℕ, Bool, List, [], ◌∷◌, ◌++◌, Option, None, Some, if◌then◌else◌, is_some, not, slice_get, take}
+use Rattle.std.specs.Prelude.{◌≡◌, ◌⊎◌, ◌&&◌, ℕ, Bool, List, [], ◌∷◌, ◌++◌, Option, None, Some, if◌then◌else◌, is_some, not, slice_get}
+use Rattle.std.specs.Prelude.{take}
 use Rattle.std.specs.Prelude.{true, false}
 use Rattle.std.specs.List.{All, Contains}
 use Rattle.call_record.specs.declared.layout.Record.{Record}

@@ -56,7 +56,7 @@ fn before(
     }
 }
 
-// The same for calls of one token, with numbers of any of these ranges.
+// As `before`, on calls of one token with numbers of any of these ranges.
 fn fronts(
     alloc: Global,
     token: u32,
@@ -75,7 +75,7 @@ fn fronts(
     }
 }
 
-/// The same for the calls of machines.
+/// A program that goes on at its last instructions, so many, on calls of these machines, and else at the first of the program that is given.
 pub(crate) fn guard(
     alloc: Global,
     machines: &[Arch],

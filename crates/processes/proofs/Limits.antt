@@ -7,12 +7,11 @@ use Rattle.call_tables.specs.declared.arch.Arch.TheVariants.{X86_64, Aarch64}
 use Rattle.call_tables.specs.Machines.{x86_64_table, aarch64_table}
 use Rattle.call_record.specs.Verdict.{strictest_of}
 use Rattle.bpf_insn.specs.Code.{operation_of}
-use Rattle.processes.specs.Attached.{is_accepted}
+use Rattle.processes.specs.Attached.{is_accepted, nothing_beside}
 use Rattle.processes.specs.declared.outcome.Outcome.TheVariants.{Done, Failed, Denied}
 use Rattle.processes.specs.Tasks.{Process, Processes, admitted}
 use Rattle.processes.specs.Begin.{execve_of}
 use Rattle.processes.specs.Kernel.{presented}
-use Rattle.processes.specs.Attached.Attached.{NoBytes}
 use Rattle.processes.proofs.Rows.{call, judging, answers, plain, started, fresh, allow_all, Line}
 
 one_more : (answers (plain 1 (codes "fork") ∷ plain 1 (codes "fork") ∷ (1, call X86_64 (codes "clone") 0x10000 0, None)
@@ -51,11 +50,11 @@ unfolding x86_64_table strictest_of operation_of is_accepted
 stays = refl
 
 -- a container begins with execve
-begins : (presented 1 (execve_of X86_64) NoBytes fresh).0 ≡ Done 0
+begins : (presented 1 (execve_of X86_64) nothing_beside fresh).0 ≡ Done 0
 unfolding x86_64_table strictest_of
 begins = refl
 
-begins_there : (presented 1 (execve_of Aarch64) NoBytes (admitted Aarch64 (judging Aarch64 ((codes "execve", 0x00050026) ∷ []) 0 1))).0
+begins_there : (presented 1 (execve_of Aarch64) nothing_beside (admitted Aarch64 (judging Aarch64 ((codes "execve", 0x00050026) ∷ []) 0 1))).0
     ≡ Denied 0x00050026
 unfolding aarch64_table strictest_of
 begins_there = refl

@@ -18,7 +18,7 @@ use Rattle.processes.specs.declared.outcome.End.{End}
 use Rattle.processes.specs.declared.outcome.Outcome.{Outcome}
 use Rattle.processes.specs.declared.outcome.Outcome.TheVariants.{Done, Failed, Absent, Denied, NoTask}
 use Rattle.processes.specs.Tasks.{Judge, Processes, Process, admitted, lives}
-use Rattle.processes.specs.Attached.{attached_of, is_accepted}
+use Rattle.processes.specs.Attached.{beside_of, is_accepted}
 use Rattle.processes.specs.Kernel.{presented}
 
 abbrev pub Fits : ℕ → Type 0
@@ -83,7 +83,7 @@ abbrev pub Line : Type 0
 Line = ℕ × Record × Option (List ℕ)
 
 abbrev pub event : Line → Processes → Outcome × Processes
-event e ps = presented e.0 e.1 (attached_of e.2) ps
+event e ps = presented e.0 e.1 (beside_of e.2 None) ps
 
 abbrev pub answers : List Line → Processes → List Outcome × Processes
 answers [] ps = ([], ps)

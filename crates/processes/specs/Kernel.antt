@@ -1,7 +1,8 @@
 -- The modelled kernel of one container: what each call of a task does, what a verdict ends, and what a
 -- signal from outside does.
 use Rattle.std.specs.Prelude.{ℕ, ◌+◌, ◌-◌, ◌^◌, ◌==◌, ◌&&◌, ◌||◌, Bool, true, false, not, List, [], ◌∷◌, ◌++◌, Option, Some, None}
-use Rattle.std.specs.Prelude.{if◌then◌else◌, nat_lt, nat_le, nat_eq, map, filter, find, drop, length, sum_by, min, bit_and, is_none, is_some}
+use Rattle.std.specs.Prelude.{if◌then◌else◌, nat_lt, nat_le, nat_eq, map, filter, find, drop, length, sum_by, min, bit_and, is_none}
+use Rattle.std.specs.Prelude.{is_some}
 use Rattle.std.specs.Cmp.Lexicographic.{pointwise}
 use Rattle.call_record.specs.declared.layout.Record.{Record}
 use Rattle.call_record.specs.declared.effect.Ends.{Ends}

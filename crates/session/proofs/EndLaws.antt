@@ -6,7 +6,9 @@ use Rattle.texts.specs.declared.streams.fault.WriteFault.{WriteFault}
 use Rattle.texts.specs.declared.streams.fault.WriteFault.TheVariants.{Write, OutOfMemory}
 use Rattle.texts.specs.Failures.{Failures, HasFailed, NoneFailed}
 use Rattle.texts.specs.Sink.{WritesMade}
+use Rattle.call_tables.specs.Arch.{family_of}
 use Rattle.processes.specs.First.{by_program}
+use Rattle.processes.specs.declared.outcome.Response.{Response}
 use Rattle.lifecycle.specs.declared.command.Reply.{Reply}
 use Rattle.lifecycle.specs.declared.command.Reply.TheVariants.{IsIn}
 use Rattle.lifecycle.specs.declared.command.Status.{Status}
@@ -19,6 +21,7 @@ use Rattle.session.specs.declared.bundles.Bundles.{Bundles}
 use Rattle.session.specs.Answer.{counted}
 use Rattle.session.specs.Commands.{CommandIs, Means}
 use Rattle.session.specs.Replies.{reply_line}
+use Rattle.session.specs.Responses.{Parted}
 use Rattle.session.specs.inner.Carried.{AnswersLine, CarriesOut, Replies, answer_line, id_in}
 use Rattle.session.specs.inner.Lines.{BreaksOff, GoesOn, RunsOut, Standing, Stands}
 use Rattle.session.proofs.CarryLaws.{names}
@@ -27,32 +30,34 @@ use Rattle.session.proofs.StandLaws.{broke_off, ran_out, went_on}
 
 module _ {S : Type 0} (sheld : S → Option (List ℕ)) (failures : S → Failures) (bundles : Bundles) where
   -- a reply was written
-  pub answered : (line : List ℕ) (number : ℕ) (asked : script.Command) (w w' : World) (old new : S) (result : Result ℕ WriteFault) (reply : Reply) (id : List ℕ)
-      → LineIs bundles.native line (Some asked) → CarriesOut bundles asked w w' (Ok (Some reply)) → id ≡ id_in asked
+  pub answered : (line call : List ℕ) (response : Option Response) (number : ℕ) (asked : script.Command) (w w' : World) (old new : S)
+      (result : Result ℕ WriteFault) (reply : Reply) (id : List ℕ) → Parted (family_of bundles.native) line call response
+      → LineIs bundles.native call (Some asked) → CarriesOut bundles asked response w w' (Ok (Some reply)) → id ≡ id_in asked
       → WritesMade sheld failures old new (reply_line id reply) result → IfOk result (λ n. n ≡ length (reply_line id reply))
       → (result ≡ Err OutOfMemory → (s : Status) × (reply ≡ IsIn s))
       → AnswersLine sheld failures bundles line number w w' old new result
-  answered line number asked w w' old new result reply id is done named written len told = by_command done.command done.is done.done where
-    always : (r : Result ℕ WriteFault) (P : Type 0) → P → IfOk r (λ _. P)
-    always (Ok n) P p = p
-    always (Err e) P p = tt
+  answered line call response number asked w w' old new result reply id parts is done named written len told =
+      by_command done.command done.is done.done where
+        always : (r : Result ℕ WriteFault) (P : Type 0) → P → IfOk r (λ _. P)
+        always (Ok n) P p = p
+        always (Err e) P p = tt
 
-    by_command : (c : Option Command) → Means bundles asked c → Replies c w w' (Some reply)
-        → AnswersLine sheld failures bundles line number w w' old new result
-    by_command None meant e = absurd e
-    by_command (Some c) meant e =
-        let same : reply_line id reply ≡ reply_line (id_of c) (step by_program c w).0 =
-        ap (λ i. reply_line i reply) (named ∙ sym (names bundles asked c meant))
-        ∙ ap (λ (p : Reply × World). reply_line (id_of c) p.0) e in
-        let after : w' ≡ (step by_program c w).1 = ap (λ (p : Reply × World). p.1) e in
-        record {
-          command = Some c;
-          is = record { asked = Some asked; is = is; meant = meant };
-          written = subst (λ (t : List ℕ). WritesMade sheld failures old new t result) same written;
-          len = subst (λ (t : List ℕ). IfOk result (λ n. n ≡ length t)) same len;
-          world = always result (w' ≡ (step by_program c w).1) after;
-          wants = λ none. inr (state_told by_program c w (told none).0 (sym (told none).1 ∙ ap (λ (p : Reply × World). p.0) e));
-        }
+        by_command : (c : Option Command) → Means bundles asked response c → Replies c w w' (Some reply)
+            → AnswersLine sheld failures bundles line number w w' old new result
+        by_command None meant e = absurd e
+        by_command (Some c) meant e =
+            let same : reply_line id reply ≡ reply_line (id_of c) (step by_program c w).0 =
+            ap (λ i. reply_line i reply) (named ∙ sym (names bundles asked response c meant))
+            ∙ ap (λ (p : Reply × World). reply_line (id_of c) p.0) e in
+            let after : w' ≡ (step by_program c w).1 = ap (λ (p : Reply × World). p.1) e in
+            record {
+              command = Some c;
+              is = record { call = call; response = response; parts = parts; asked = Some asked; is = is; meant = meant };
+              written = subst (λ (t : List ℕ). WritesMade sheld failures old new t result) same written;
+              len = subst (λ (t : List ℕ). IfOk result (λ n. n ≡ length t)) same len;
+              world = always result (w' ≡ (step by_program c w).1) after;
+              wants = λ none. inr (state_told by_program c w (told none).0 (sym (told none).1 ∙ ap (λ (p : Reply × World). p.0) e));
+            }
 
   module _ (s : Standing) (held : Option (List ℕ)) (lines : List (List ℕ)) (part : List ℕ) (cs : List (Option Command)) (line : List ℕ) (number : ℕ) (same : line ≡ s.kept) (numbered : number ≡ counted (s.count + 1)) (w' : World) (old new : S) (st : Stands bundles s held (sheld old) lines part cs) where
     is_kept : (c : Option Command) → CommandIs bundles line c → CommandIs bundles s.kept c

@@ -1,4 +1,7 @@
 mod Found
+mod NumberLaws
+mod SplitLaws
+mod ResponseLaws
 mod CarryLaws
 mod KeptLaws
 mod CutLaws

@@ -2,16 +2,18 @@
 use Rattle.std.specs.Prelude.{ℕ, ◌≡◌, List, [], ◌∷◌, Option, None, Some, map, if◌then◌else◌}
 use Rattle.std.specs.Option.{option_map}
 use Rattle.call_tables.specs.declared.arch.Arch.{Arch}
-use Rattle.call_tables.specs.Arch.{token_of}
+use Rattle.call_tables.specs.Arch.{family_of, token_of}
 use Rattle.call_record.specs.declared.layout.Record.{Record}
 use Rattle.cert_check.specs.declared.checked.Checked.{Checked}
 use Rattle.processes.specs.Attached.{beside_of}
 use Rattle.processes.specs.Views.{same_text}
+use Rattle.processes.specs.declared.outcome.Response.{Response}
 use Rattle.lifecycle.specs.Commands.{Command}
 use Rattle.lifecycle.specs.Commands as command
 use Rattle.script.specs.Commands as script
 use Rattle.script.specs.Grammar.{LineIs}
 use Rattle.session.specs.declared.bundles.Bundles.{Bundles}
+use Rattle.session.specs.Responses.{Parted}
 
 -- each name with its checked filter
 abbrev pub named : Bundles → List (List ℕ × Checked)
@@ -29,26 +31,36 @@ pub record IsRecordOf (arch : Arch) (nr : ℕ) (args : List ℕ) (r : Record) : 
   pub address : r.ip ≡ 0
   pub arguments : r.args ≡ args
 
--- what a command of a script means to a runtime; with a bundle that is not there it means no command
-abbrev pub Means : Bundles → script.Command → Option Command → Type 0
-Means bundles (script.Create id name) c = c ≡ option_map (command.Create id) (first_called name (named bundles))
-Means bundles (script.Start id) c = c ≡ Some (command.Start id)
-Means bundles (script.Delete id) c = c ≡ Some (command.Delete id)
-Means bundles (script.State id) c = c ≡ Some (command.State id)
-Means bundles (script.Kill id signal) c = c ≡ Some (command.Kill id signal)
-Means bundles (script.Call id task arch nr args program) c =
-    (r : Record) × IsRecordOf arch nr args r × (c ≡ Some (command.Call id task r (beside_of program None)))
+-- a command beside which no response stands
+abbrev pub alone : Option Response → Option Command → Option Command
+alone None c = c
+alone (Some response) c = None
+
+-- What a command of a script means to a runtime, with the response beside it. With a bundle that is not there it means no
+-- command, nor does any but a call with a response.
+abbrev pub Means : Bundles → script.Command → Option Response → Option Command → Type 0
+Means bundles (script.Create id name) response c =
+    c ≡ alone response (option_map (command.Create id) (first_called name (named bundles)))
+Means bundles (script.Start id) response c = c ≡ alone response (Some (command.Start id))
+Means bundles (script.Delete id) response c = c ≡ alone response (Some (command.Delete id))
+Means bundles (script.State id) response c = c ≡ alone response (Some (command.State id))
+Means bundles (script.Kill id signal) response c = c ≡ alone response (Some (command.Kill id signal))
+Means bundles (script.Call id task arch nr args program) response c =
+    (r : Record) × IsRecordOf arch nr args r × (c ≡ Some (command.Call id task r (beside_of program response)))
 
 -- what a line means: no command where it is none of a script
-abbrev pub LineMeans : Bundles → Option script.Command → Option Command → Type 0
-LineMeans bundles None c = c ≡ None
-LineMeans bundles (Some asked) c = Means bundles asked c
+abbrev pub LineMeans : Bundles → Option script.Command → Option Response → Option Command → Type 0
+LineMeans bundles None response c = c ≡ None
+LineMeans bundles (Some asked) response c = Means bundles asked response c
 
--- a line is this command, or none
+-- a line is this command, or none: what stands in it before the response, if it says one, is a command of a script
 pub record CommandIs (bundles : Bundles) (line : List ℕ) (c : Option Command) : Type 0 where
+  pub call : List ℕ
+  pub response : Option Response
+  pub parts : Parted (family_of bundles.native) line call response
   pub asked : Option script.Command
-  pub is : LineIs bundles.native line asked
-  pub meant : LineMeans bundles asked c
+  pub is : LineIs bundles.native call asked
+  pub meant : LineMeans bundles asked response c
 
 -- each line is what stands beside it
 abbrev pub CommandsAre : Bundles → List (List ℕ) → List (Option Command) → Type 0

@@ -1,5 +1,6 @@
 pub mod Fault
 pub mod Replies
+pub mod Responses
 pub mod Commands
 pub mod Answer
 pub mod Wants

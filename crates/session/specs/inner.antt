@@ -1,4 +1,5 @@
 pub mod Cuts
+pub mod Responding
 pub mod Carried
 pub mod Lines
 pub mod Progress

@@ -5,6 +5,7 @@ ghost use Rattle.session.specs.inner.Carried.{AnswersLine};
 
 use crate::carry::{Session, id_named};
 use crate::reply::{write_no_command, write_reply};
+use crate::response::parted;
 use script::read_line;
 use std::alloc::Global;
 use texts::{Sink, WriteFault};
@@ -20,10 +21,11 @@ pub(crate) fn answer_line<S: Sink>(
     ensures bundles { session.new.bundles ≡ session.old.bundles }
     ensures done { AnswersLine S.held S.failures session.old.bundles line.now number (world_of session.old.runtime) (world_of session.new.runtime) sink.old sink.new result }
 {
-    let Some(request) = read_line(session.bundles.native, line) else {
+    let (call, response) = parted(session.bundles.native, line);
+    let Some(request) = read_line(session.bundles.native, call) else {
         return write_no_command(number, sink);
     };
-    match session.carry_out(&request)? {
+    match session.carry_out(&request, response)? {
         Some(reply) => write_reply(alloc, id_named(&request), &reply, sink),
         None => write_no_command(number, sink),
     }

@@ -1,11 +1,11 @@
 //! Commands of a script, carried out.
-ghost use Rattle.std.specs.Prelude.{◌≡◌, ◌≤◌, IfOk, OnErr, []};
+ghost use Rattle.std.specs.Prelude.{◌≡◌, ◌≤◌, IfOk, OnErr, [], Some};
 ghost use Rattle.std.specs.Option.{option_map};
 ghost use Rattle.std.specs.Vec.{vec_capacity};
 ghost use Rattle.lifecycle.specs.Commands as commands;
 ghost use Rattle.lifecycle.specs.Views.{world_of};
 ghost use Rattle.script.specs.Requests as requests;
-ghost use Rattle.session.specs.Commands.{IsRecordOf, Means};
+ghost use Rattle.session.specs.Commands.{IsRecordOf, Means, alone};
 ghost use Rattle.session.specs.Wants.{WantsMemory};
 ghost use Rattle.session.specs.inner.Carried.{CarriesOut, Fits, Replies, id_in, program_in};
 
@@ -13,6 +13,7 @@ use crate::bundles::Bundles;
 use call_record::Record;
 use call_tables::Arch;
 use lifecycle::{Command, Reply, Runtime};
+use processes::Response;
 use script::{Hex, MAX_LINE, Request};
 use shared_table::SharedTable;
 use std::alloc::{AllocError, Global};
@@ -77,21 +78,39 @@ fn program_beside<'a>(request: &Request<'a>) -> Option<Hex<'a>>
     }
 }
 
-// The command that is asked for, with the bytes of its program: none where it names no bundle that is there.
+// A command that is no call: none with a response.
+fn unless_answered<'a, 'c>(
+    command: Command<'a, 'c>,
+    response: Option<Response>,
+) -> Option<Command<'a, 'c>>
+    ensures { option_map commands.command_of result ≡ alone response (Some (commands.command_of command.entry)) }
+{
+    match response {
+        None => Some(command),
+        Some(_) => None,
+    }
+}
+
+// The command that is asked for, with the bytes of its program and what a listener responds: none where it names no bundle
+// that is there, nor where a response stands beside no call.
 fn command_of<'a, 'c, 'r: 'c>(
     bundles: &Bundles<'a>,
     request: &Request<'r>,
     program: Option<&'c [u8]>,
+    response: Option<Response>,
 ) -> Option<Command<'a, 'c>>
     requires { option_map (λ p. p.now) program ≡ program_in (requests.command_of request.now) }
-    ensures { Means bundles.now (requests.command_of request.now) (option_map commands.command_of result) }
+    ensures { Means bundles.now (requests.command_of request.now) response (option_map commands.command_of result) }
 {
     match *request {
-        Request::Create { id, bundle } => Some(Command::Create(id, bundles.find(bundle)?)),
-        Request::Start { id } => Some(Command::Start(id)),
-        Request::Delete { id } => Some(Command::Delete(id)),
-        Request::State { id } => Some(Command::State(id)),
-        Request::Kill { id, signal } => Some(Command::Kill(id, signal)),
+        Request::Create { id, bundle } => {
+            let checked = bundles.find(bundle)?;
+            unless_answered(Command::Create(id, checked), response)
+        }
+        Request::Start { id } => unless_answered(Command::Start(id), response),
+        Request::Delete { id } => unless_answered(Command::Delete(id), response),
+        Request::State { id } => unless_answered(Command::State(id), response),
+        Request::Kill { id, signal } => unless_answered(Command::Kill(id, signal), response),
         Request::Call {
             id,
             task,
@@ -99,7 +118,7 @@ fn command_of<'a, 'c, 'r: 'c>(
             nr,
             args,
             ..
-        } => Some(Command::Call(id, task, record_of(arch, nr, args), program, None)),
+        } => Some(Command::Call(id, task, record_of(arch, nr, args), program, response)),
     }
 }
 
@@ -132,20 +151,28 @@ impl<'a> Session<'a> {
         })
     }
 
-    /// Carries out what a line asks for, if it is a command.
-    pub(crate) fn carry_out(&mut self, request: &Request<'_>) -> Result<Option<Reply>, AllocError>
+    /// Carries out what a line asks for, with the response beside it, if it is a command.
+    pub(crate) fn carry_out(
+        &mut self,
+        request: &Request<'_>,
+        response: Option<Response>,
+    ) -> Result<Option<Reply>, AllocError>
         requires { Fits (requests.command_of request.now) }
         ensures bundles { self.new.bundles ≡ self.old.bundles }
-        ensures done { CarriesOut self.old.bundles (requests.command_of request.now) (world_of self.old.runtime) (world_of self.new.runtime) result }
+        ensures done { CarriesOut self.old.bundles (requests.command_of request.now) response
+            (world_of self.old.runtime) (world_of self.new.runtime) result }
     {
         match program_beside(request) {
-            None => obey(&mut self.runtime, command_of(&self.bundles, request, None)),
+            None => obey(
+                &mut self.runtime,
+                command_of(&self.bundles, request, None, response),
+            ),
             Some(hex) => {
                 hex.put_into(&mut self.program);
                 let bytes = self.program.as_slice();
                 obey(
                     &mut self.runtime,
-                    command_of(&self.bundles, request, Some(bytes)),
+                    command_of(&self.bundles, request, Some(bytes), response),
                 )
             }
         }

@@ -11,6 +11,7 @@ mod fault;
 mod law;
 mod progress;
 mod reply;
+mod response;
 mod run;
 
 pub use bundles::{Bundle, Bundles};

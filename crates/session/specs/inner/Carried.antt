@@ -6,6 +6,7 @@ use Rattle.texts.specs.Sink.{WritesMade}
 use Rattle.texts.specs.declared.streams.fault.WriteFault.{WriteFault}
 use Rattle.texts.specs.declared.streams.fault.WriteFault.TheVariants.{OutOfMemory}
 use Rattle.processes.specs.First.{by_program}
+use Rattle.processes.specs.declared.outcome.Response.{Response}
 use Rattle.lifecycle.specs.declared.command.Reply.{Reply}
 use Rattle.lifecycle.specs.Commands.{Command, id_of}
 use Rattle.lifecycle.specs.Steps.{step}
@@ -64,9 +65,10 @@ Replies None w w' (Some r) = ⊥
 Replies (Some c) w w' None = ⊥
 
 -- what a command of a script means was carried out; without memory for it the world stays
-pub record CarriesOut (bundles : Bundles) (asked : script.Command) (w w' : World) (result : Result (Option Reply) AllocError) : Type 0 where
+pub record CarriesOut (bundles : Bundles) (asked : script.Command) (response : Option Response) (w w' : World)
+    (result : Result (Option Reply) AllocError) : Type 0 where
   pub command : Option Command
-  pub is : Means bundles asked command
+  pub is : Means bundles asked response command
   pub done : IfOk result (λ r. Replies command w w' r)
   pub kept : OnErr result (w' ≡ w)
   pub wants : OnErr result (WantsMemory command w)
