@@ -15,6 +15,7 @@ mod BesideLaws
 mod WidenLaws
 mod UnbegunLaws
 mod RemarkLaws
+mod ReviewLaws
 mod ExplainedLaws
 mod StatusLaws
 mod LogLaws

@@ -1,3 +1,4 @@
+pub mod Added
 pub mod Grouped
 pub mod Markup
 pub mod Rows

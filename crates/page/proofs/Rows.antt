@@ -1,7 +1,7 @@
 -- The rows of the table, one after the other.
 use Rattle.std.proofs.Common.{◌≡◌, ℕ, zero, suc, ◌+◌, ◌<◌, ◌≤◌, List, [], ◌∷◌, ◌++◌, append_assoc, drop, get_or, length, map, refl, ap, subst, sym, ◌∙◌, arith}
 use Rattle.std.specs.Prelude.{Option, Some, None, option_map}
-use Rattle.core.specs.Slice.{IsItemAt}
+use Rattle.std.specs.Slice.{IsItemAt}
 use denote.Ref.{Bor}
 use Rattle.json_lines.specs.Lines.{Text}
 use Rattle.page.specs.Table.{cell, row, rows}
@@ -29,13 +29,18 @@ cell_is : (others : List Group) (place : ℕ) (r : Option (Bor Group)) → IsIte
 cell_is others place None h = sym (cell_none others place h.3)
 cell_is others place (Some g) h = ap (λ x. cell (group x)) h.1 ∙ sym (cell_some others place g.now h.3.0)
 
+none_left : (place : ℕ) → drop place (groups []) ≡ groups []
+none_left zero = refl
+none_left (suc place) = refl
+
 rows_step : (list others : List Group) (place : ℕ) (d : Group) → place < length list
     → rows (drop place (groups list)) (drop place (groups others))
     ≡ row (group (get_or list place d)) (cell_at others place) ++ rows (drop (suc place) (groups list)) (drop (suc place) (groups others))
 rows_step [] others place d l = absurd (omega arith)
 rows_step (g ∷ list) [] zero d l = refl
 rows_step (g ∷ list) (other ∷ others) zero d l = refl
-rows_step (g ∷ list) [] (suc place) d l = rows_step list [] place d (omega arith)
+rows_step (g ∷ list) [] (suc place) d l =
+    ap (λ os. rows (drop place (groups list)) os) (sym (none_left place)) ∙ rows_step list [] place d (omega arith)
 rows_step (g ∷ list) (other ∷ others) (suc place) d l = rows_step list others place d (omega arith)
 
 pub rows_on : (told more all : Text) (list others : List Group) (place : ℕ) (d : Group) (r : Option (Bor Group)) → place < length list

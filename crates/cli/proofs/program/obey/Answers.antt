@@ -159,3 +159,6 @@ returns-in-Flatten-clause-does g c = rw c.in-Flatten.is (
   answers_told g.O.Sink.held g.O.Sink.failures (g.F.Files.folder c.args.files.now) (texts c.args.parts.from_two.now) (TellsFlat c.args.parts.native)
       c.args.out.now c.tell-in-Flatten.new.out c.tell-in-Flatten.result c.flattened.result c.flattened.ensures c.tell-in-Flatten.ensures,
 )
+
+pub returns-in-Review-clause-does : goal.returns-in-Review-clause-does
+returns-in-Review-clause-does g c = rw c.in-Review.is (refl, c.review_as.ensures)
