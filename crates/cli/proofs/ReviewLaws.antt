@@ -1,6 +1,6 @@
 -- What `review` tells, by the words behind the first bundle.
 use Rattle.std.proofs.Common.{◌≡◌, ◌≢◌, ◌⊎◌, ℕ, List, [], ◌∷◌, codes, subst}
-use Rattle.std.specs.Prelude.{Bool, true, false, Option, Result}
+use Rattle.std.specs.Prelude.{Bool, true, false, IfOk, Option, Result, Ok, Err}
 use Rattle.std.specs.Str.{bytes_eq}
 use Rattle.texts.specs.Failures.{Failures}
 use Rattle.review.specs.Reviewed.{IsReviewed}
@@ -39,3 +39,10 @@ module _ {O : Type 0} (held : O → Option (List ℕ)) (failures : O → Failure
       ⊎ ((p.three ≢ []) × StopsAtWords held failures folder old new result)
       → Answers html_two html_one
   behind_neither e f h = subst (λ b. Answers b html_one) e (subst (λ b. Answers false b) f h)
+
+-- ---- what is told, if memory is given
+
+pub if_ok : {T E : Type 0} (result : Result T E) (P Q : T → Type 0) → ((told : T) → P told → Q told) → IfOk result P
+    → IfOk result Q
+if_ok (Ok told) P Q f h = f told h
+if_ok (Err fault) P Q f h = tt

@@ -24,21 +24,22 @@ pub returns-then-eq-2 : goal.returns-then-eq-2
 returns-then-eq-2 g c =
     let p = c.args.parts in
     let folder = g.F.Files.folder c.args.files.now in
-    behind_one g.O.Sink.held g.O.Sink.failures folder c.args.out.now c.tell-2.new.out (read p) c.tell-2.result
+    behind_one g.O.Sink.held g.O.Sink.failures folder c.args.out.now c.tell-then-eq-2.new.out (read p) c.tell-then-eq-2.result
     c.if-eq.ensures c.if-eq-2.ensures
     (answers_told g.O.Sink.held g.O.Sink.failures folder (p.two.now ∷ []) (of_one (OfBundle p.native (TellsPage p.native p.two.now)))
-    c.args.out.now c.tell-2.new.out c.tell-2.result c.paged.result c.paged.ensures c.tell-2.ensures)
+    c.args.out.now c.tell-then-eq-2.new.out c.tell-then-eq-2.result c.paged.result c.paged.ensures c.tell-then-eq-2.ensures)
 
 pub returns-then-is_empty : goal.returns-then-is_empty
 returns-then-is_empty g c =
     let p = c.args.parts in
     let folder = g.F.Files.folder c.args.files.now in
-    behind_neither g.O.Sink.held g.O.Sink.failures folder c.args.out.now c.tell-3.new.out (read p) c.tell-3.result
+    behind_neither g.O.Sink.held g.O.Sink.failures folder c.args.out.now c.tell-then-is_empty.new.out (read p) c.tell-then-is_empty.result
     c.if-eq.ensures c.if-eq-2.ensures
     (inl (
       nil_from_length p.three.now (eqb-true (length p.three.now) 0 (sym c.if-is_empty.ensures)),
       answers_told g.O.Sink.held g.O.Sink.failures folder (p.two.now ∷ []) (of_one (OfBundle p.native (IsReviewed p.native)))
-          c.args.out.now c.tell-3.new.out c.tell-3.result c.reviewed.result c.reviewed.ensures c.tell-3.ensures,
+          c.args.out.now c.tell-then-is_empty.new.out c.tell-then-is_empty.result c.reviewed.result c.reviewed.ensures
+          c.tell-then-is_empty.ensures,
     ))
 
 pub returns : goal.returns

@@ -1,5 +1,3 @@
-use Rattle.page.specs.inner.Views.{groups}
-use Rattle.page.specs.Table.{rows}
 use Rattle.page.proofs.Rows.{rows_on}
 use Rattle.page.proofs.table.put_rows.Goals as goal
 
