@@ -1,5 +1,5 @@
 """crun and runc of Debian on a real kernel, with Debian's own libseccomp: the filter of a container is read back there and judged on this
-machine, as an operator does it (docs/ENGINES.md, "Nodes of arm64, riscv64 and ppc64le")."""
+machine, as an operator does it (docs/ENGINES.md, "Nodes of arm64, riscv64, ppc64le and s390x")."""
 import os
 import subprocess
 
