@@ -25,4 +25,3 @@ pub mod Input
 pub mod Paged
 pub mod Parts
 pub mod Json
-pub mod Exported

@@ -4,4 +4,4 @@ use Rattle.cli.proofs.parts.machines_are_called.Goals as goal
 
 pub returns : goal.returns
 unfolding native_called
-returns c = (refl, (refl, (refl, (refl, (refl, (refl, (refl, tt)))))))
+returns c = (refl, (refl, (refl, (refl, (refl, (refl, (refl, (refl, tt))))))))
