@@ -181,7 +181,7 @@ static void carry_out(const char *line)
 	int first = 1;
 
 	shared = mmap(NULL, sizeof(*shared), PROT_READ | PROT_WRITE, MAP_SHARED | MAP_ANONYMOUS, -1, 0);
-	listening = enter(SYS_clone, CLONE_FILES | SIGCHLD, 0, 0, 0);
+	listening = enter_clone(CLONE_FILES | SIGCHLD);
 	if (listening == 0)
 		listen_to_all();
 	give_up_privileges();
