@@ -7,6 +7,7 @@ import json
 
 from harness.asked import record
 from harness.calls import TOKENS
+from kernel_side.handed import arguments_of
 from kernel_side.insns import ALLOW, LD, RET, digits
 from kernel_side.sides import Tally
 
@@ -65,7 +66,7 @@ def result_of(sides, step, told):
 
 def begun(machine, native):
     """The questions with which a container begins: two tasks of one group, and a filter that allows all."""
-    clone = record(machine.number("clone"), TOKENS[native], [THREAD])
+    clone = record(machine.number("clone"), TOKENS[native], [*arguments_of(machine, "clone", (THREAD,))])
     first = [f"profile bundle {native} {ALL}", "profile compile", "profile certify", "profile keep"]
     return ["kernel anew", *first], ["kernel admit c 0", f"kernel call c 1 {clone}"]
 
