@@ -29,6 +29,7 @@ class Machine:
     is_big_endian: bool = False
     flags_of_clone: int = 0  # which of its arguments these are
     in_memory: tuple = ()  # calls whose arguments stand in memory, where no filter sees them
+    by_arguments: tuple = ()  # calls of which their arguments decide what comes where nothing refuses them
 
     def number(self, name, way=0):
         """The number of a call by a way, or None where the machine has none of this name."""
@@ -116,5 +117,6 @@ S390 = Machine(
     number_bits=16,
     is_big_endian=True,
     flags_of_clone=1,
+    by_arguments=("read", "write"),
 )
 MACHINES = {machine.name: machine for machine in (X86_64, AARCH64, ARM, RISCV64, PPC64LE, S390X, S390)}

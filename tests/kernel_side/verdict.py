@@ -50,7 +50,8 @@ class Records:
         self.every = numbers_of(self.machine)
         told = [part.split(":") for part in sides.real(["ways"])[0].split()]
         self.behind = {way: int(place, 16) for way, place in told}
-        asked = [(way, nr) for way, numbers in self.every.items() for nr in numbers]
+        by_arguments = [self.machine.number(name) for name in self.machine.by_arguments]
+        asked = [(way, nr) for way, numbers in self.every.items() for nr in numbers if nr not in by_arguments]
         told = sides.real([case_line([], [(way, nr, [NOT_OPEN[-1]])]) for way, nr in asked])
         self.free = {call: came_free(line) for call, line in zip(asked, told)}
 
