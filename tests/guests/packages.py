@@ -35,8 +35,9 @@ def carried_out(words, **options):
 class Packages:
     """The packages of an architecture and a suite."""
 
-    def __init__(self, folder, debian, suite, mirror):
+    def __init__(self, folder, debian, suite, mirror, given=()):
         self.folder = folder
+        self.given = list(given)
         for name in FOLDERS:
             os.makedirs(f"{folder}/{name}", exist_ok=True)
         self.write("apt.conf", SETTINGS.format(folder=folder, debian=debian, suite=suite))
@@ -78,11 +79,11 @@ class Packages:
         return found[0]
 
     def with_all(self, *names):
-        """The files of packages and of all that they ask for."""
+        """The files of packages and of all that they ask for: the given ones where these have the name."""
         kept = f"{self.folder}/{names[0]}"
         os.makedirs(f"{kept}/partial", exist_ok=True)
-        self.apt("apt-get", "-qq", "-y", "--download-only", "-o", f"Dir::Cache::archives={kept}", "install", *names)
-        return sorted(glob.glob(f"{kept}/*.deb"))
+        self.apt("apt-get", "-qq", "-y", "--download-only", "-o", f"Dir::Cache::archives={kept}", "install", *names, *self.given)
+        return sorted([*glob.glob(f"{kept}/*.deb"), *self.given])
 
 
 def unpack(package, into):

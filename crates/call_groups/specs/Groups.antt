@@ -3,8 +3,10 @@ use Rattle.std.specs.Prelude.{ℕ, nat_eq, Bool, true, false, codes, if◌then�
 use Rattle.std.specs.List.{flat_map, starts_with}
 use Rattle.std.specs.Str.{bytes_eq}
 use denote.Ref.{Bor}
-use Rattle.call_groups.specs.declared.names.TheConstants.{BASIC_IO_TO_DEBUG, DEFAULTS, DEFAULTS_TO_AIO, EVENTS, FILES, FILES_LATER, IPC_TO_MODULE}
-use Rattle.call_groups.specs.declared.later_names.TheConstants.{MOUNT_TO_NETWORK, OBSOLETE_TO_PKEY, PRIVILEGED, PROCESS_TO_REBOOT, RESOURCES_TO_SETUID, SERVICES, SERVICES_TO_TIMER, SIGNAL_TO_SYNC}
+use Rattle.call_groups.specs.declared.names.TheConstants.{BASIC_IO_TO_DEBUG, DEFAULTS, DEFAULTS_TO_AIO, EVENTS}
+use Rattle.call_groups.specs.declared.names.TheConstants.{FILES, FILES_LATER, IPC_TO_MODULE}
+use Rattle.call_groups.specs.declared.later_names.TheConstants.{MOUNT_TO_NETWORK, OBSOLETE_TO_PKEY, PRIVILEGED, PROCESS_TO_REBOOT}
+use Rattle.call_groups.specs.declared.later_names.TheConstants.{RESOURCES_TO_SETUID, SERVICES, SERVICES_TO_TIMER, SIGNAL_TO_SYNC}
 
 abbrev pub Text : Type 0
 Text = List ℕ

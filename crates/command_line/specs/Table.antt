@@ -2,8 +2,8 @@
 use Rattle.std.specs.Prelude.{ℕ, List, [], ◌∷◌, map, codes}
 use denote.Ref.{Bor}
 use Rattle.command_line.specs.declared.meanings.Meaning.{Meaning}
-use Rattle.command_line.specs.declared.meanings.Meaning.TheVariants.{Machine, Form, Certified, CertifiedToo}
-use Rattle.command_line.specs.declared.meanings.Meaning.TheVariants.{ReadAs, ReviewedBoth, ShownAs, Recovered, RecoveredToo, Compared, Judge}
+use Rattle.command_line.specs.declared.meanings.Meaning.TheVariants.{Machine, Form, Certified, CertifiedToo, Judge}
+use Rattle.command_line.specs.declared.meanings.Meaning.TheVariants.{ReadAs, ReviewedBoth, ShownAs, Recovered, RecoveredToo, Compared}
 use Rattle.command_line.specs.declared.prose.Command.{Command}
 use Rattle.command_line.specs.declared.table.TheConstants.{COMMANDS}
 

@@ -11,7 +11,7 @@ use Rattle.profile.specs.declared.rules.Rule.{Rule}
 use Rattle.profile.specs.Policy.{Policy}
 use Rattle.rule_compile.proofs.RulesLaws.{any_cases, any_here, any_later, any_nil}
 use Rattle.compare.specs.declared.behind_runc.stub.calls.Calls.{Calls}
-use Rattle.compare.specs.Spared.{IsBeyond, IsNoCall, IsSpared}
+use Rattle.compare.specs.Spared.{IsBeyond, IsNoCall, IsSpared, IsVacant}
 use Rattle.compare.specs.inner.Spans.{AreBeyond, AreLeft, AreLeftIn, cut, spans}
 
 -- ---- numbers that are of the same machines
@@ -102,49 +102,77 @@ turned a b (inr (inr h)) = inr (inr (h.1, h.0))
 abbrev no_calls : Numbers
 no_calls = from_to 0x80000000 0xbfffffff
 
--- the numbers of a stretch are of the same machines, and all or none of them are no call
-abbrev IsEven : Numbers → Type 0
-IsEven span = (a b : ℕ) → IsWithin a span → IsWithin b span → AreAlike a b × (IsWithin a no_calls → IsWithin b no_calls)
+-- the numbers of a stretch are of the same machines, all or none of them are no call, and all or none of them are 0
+pub record AreEven (a b : ℕ) : Type 0 where
+  pub alike : AreAlike a b
+  pub calls : IsWithin a no_calls → IsWithin b no_calls
+  pub zero : a ≡ 0 → b ≡ 0
 
-even_0 : IsEven (from_to 0 0x3fffffff)
-even_0 a b ha hb =
+abbrev IsEven : Numbers → Type 0
+IsEven span = (a b : ℕ) → IsWithin a span → IsWithin b span → AreEven a b
+
+even_zero : IsEven (from_to 0 0)
+even_zero a b ha hb =
     let at = ha.1 in
-    let bt = hb.1 in
-    (inl (omega (arith, at), omega (arith, bt)), λ h. let from = h.0 in absurd (omega (arith, at, from)))
+    let bt = hb.1 in record {
+      alike = inl (omega (arith, at), omega (arith, bt));
+      calls = λ h. let from = h.0 in absurd (omega (arith, at, from));
+      zero = λ _. omega (arith, bt);
+    }
+
+even_0 : IsEven (from_to 1 0x3fffffff)
+even_0 a b ha hb =
+    let af = ha.0 in
+    let at = ha.1 in
+    let bt = hb.1 in record {
+      alike = inl (omega (arith, at), omega (arith, bt));
+      calls = λ h. let from = h.0 in absurd (omega (arith, at, from));
+      zero = λ z. absurd (omega (arith, af, z));
+    }
 
 even_1 : IsEven (from_to 0x40000000 0x7fffffff)
 even_1 a b ha hb =
     let af = ha.0 in
     let at = ha.1 in
     let bf = hb.0 in
-    let bt = hb.1 in
-    (inr (inl ((af, omega (arith, at)), (bf, omega (arith, bt)))), λ h. let from = h.0 in absurd (omega (arith, at, from)))
+    let bt = hb.1 in record {
+      alike = inr (inl ((af, omega (arith, at)), (bf, omega (arith, bt))));
+      calls = λ h. let from = h.0 in absurd (omega (arith, at, from));
+      zero = λ z. absurd (omega (arith, af, z));
+    }
 
 even_2 : IsEven (from_to 0x80000000 0xbfffffff)
 even_2 a b ha hb =
     let af = ha.0 in
     let at = ha.1 in
     let bf = hb.0 in
-    let bt = hb.1 in
-    (inr (inl ((omega (arith, af), omega (arith, at)), (omega (arith, bf), omega (arith, bt)))), λ h. hb)
+    let bt = hb.1 in record {
+      alike = inr (inl ((omega (arith, af), omega (arith, at)), (omega (arith, bf), omega (arith, bt))));
+      calls = λ h. hb;
+      zero = λ z. absurd (omega (arith, af, z));
+    }
 
 even_3 : IsEven (from_to 0xc0000000 0xfffffffe)
 even_3 a b ha hb =
     let af = ha.0 in
     let at = ha.1 in
     let bf = hb.0 in
-    let bt = hb.1 in (
-      inr (inl ((omega (arith, af), omega (arith, at)), (omega (arith, bf), omega (arith, bt)))),
-      λ h. let to = h.1 in absurd (omega (arith, af, to)),
-    )
+    let bt = hb.1 in record {
+      alike = inr (inl ((omega (arith, af), omega (arith, at)), (omega (arith, bf), omega (arith, bt))));
+      calls = λ h. let to = h.1 in absurd (omega (arith, af, to));
+      zero = λ z. absurd (omega (arith, af, z));
+    }
 
 even_4 : IsEven (from_to 0xffffffff 0xffffffff)
 even_4 a b ha hb =
     let af = ha.0 in
     let at = ha.1 in
     let bf = hb.0 in
-    let bt = hb.1 in
-    (inr (inr (omega (arith, af, at), omega (arith, bf, bt))), λ h. let to = h.1 in absurd (omega (arith, af, to)))
+    let bt = hb.1 in record {
+      alike = inr (inr (omega (arith, af, at), omega (arith, bf, bt)));
+      calls = λ h. let to = h.1 in absurd (omega (arith, af, to));
+      zero = λ z. absurd (omega (arith, af, z));
+    }
 
 -- ---- what is spared of one stretch, and of all
 
@@ -166,7 +194,7 @@ module _ (p : Policy) (calls : Calls) where
     behind : nr ≤ (cut calls.numbers span).last
     behind = let a = inside.1 in let b = here.1 in omega (arith, a, b)
 
-    same : AreAlike first nr × (IsWithin first no_calls → IsWithin nr no_calls)
+    same : AreEven first nr
     same = even first nr (omega arith, (let b = here.1 in let c = before in omega (arith, b, c))) here
 
     is : AreLeft p calls.token (cut calls.numbers span)
@@ -175,15 +203,18 @@ module _ (p : Policy) (calls : Calls) where
     beyond : (rule : Rule) → AreBeyond calls.token (cut calls.numbers span) rule → IsBeyond calls.token nr rule
     beyond rule b = record {
       other = λ token at. b.others token (subst (λ n. IsWithin n (cut calls.numbers span)) (sym at) (before, behind));
-      above = λ has. let less = b.above (has.0, own_alike rule.arch nr first (turned first nr same.0) has.1) in let c = before in omega (arith, less, c);
+      above = λ has. elim (b.above (has.0, own_alike rule.arch nr first (turned first nr same.alike) has.1)) [
+        | inl less ↦ let c = before in inl (omega (arith, less, c))
+        | inr vacant ↦ inr (same.zero vacant.0, vacant.1)
+      ];
     }
 
     pub spared_in : IsSpared p calls.token nr
     spared_in = record {
       listed = elim is.listed [
         | inl some ↦ inl (some_of (HasCall calls.token first) (HasCall calls.token nr)
-            (λ arch has. (has.0, own_alike arch first nr same.0 has.1)) p.machines some)
-        | inr none ↦ inr (none.0, same.1 none.1)
+            (λ arch has. (has.0, own_alike arch first nr same.alike has.1)) p.machines some)
+        | inr none ↦ inr (none.0, same.calls none.1)
       ];
       beyond = λ k d lt. beyond (slice_index_or p.rules k d) (is.beyond k d lt);
     }
@@ -192,17 +223,21 @@ module _ (p : Policy) (calls : Calls) where
   spared_of all most nr inside =
       let small = inside.1 in
       elim (cases_lt nr 0x40000000) [
-        | inl a ↦ spared_in (from_to 0 0x3fffffff) even_0 (all 0 (from_to 0 0) (omega arith)) nr inside (omega arith, omega (arith, a))
+        | inl a ↦ elim (cases_lt nr 1) [
+          | inl z ↦ spared_in (from_to 0 0) even_zero (all 0 (from_to 0 0) (omega arith)) nr inside (omega arith, omega (arith, z))
+          | inr z ↦ spared_in (from_to 1 0x3fffffff) even_0 (all 1 (from_to 0 0) (omega arith)) nr inside
+              (omega (arith, z), omega (arith, a))
+        ]
         | inr a ↦ elim (cases_lt nr 0x80000000) [
-          | inl b ↦ spared_in (from_to 0x40000000 0x7fffffff) even_1 (all 1 (from_to 0 0) (omega arith)) nr inside
+          | inl b ↦ spared_in (from_to 0x40000000 0x7fffffff) even_1 (all 2 (from_to 0 0) (omega arith)) nr inside
               (omega (arith, a), omega (arith, b))
           | inr b ↦ elim (cases_lt nr 0xc0000000) [
-            | inl c ↦ spared_in (from_to 0x80000000 0xbfffffff) even_2 (all 2 (from_to 0 0) (omega arith)) nr inside
+            | inl c ↦ spared_in (from_to 0x80000000 0xbfffffff) even_2 (all 3 (from_to 0 0) (omega arith)) nr inside
                 (omega (arith, b), omega (arith, c))
             | inr c ↦ elim (cases_lt nr 0xffffffff) [
-              | inl d ↦ spared_in (from_to 0xc0000000 0xfffffffe) even_3 (all 3 (from_to 0 0) (omega arith)) nr inside
+              | inl d ↦ spared_in (from_to 0xc0000000 0xfffffffe) even_3 (all 4 (from_to 0 0) (omega arith)) nr inside
                   (omega (arith, c), omega (arith, d))
-              | inr d ↦ spared_in (from_to 0xffffffff 0xffffffff) even_4 (all 4 (from_to 0 0) (omega arith)) nr inside
+              | inr d ↦ spared_in (from_to 0xffffffff 0xffffffff) even_4 (all 5 (from_to 0 0) (omega arith)) nr inside
                   (omega (arith, d), omega (arith, small, most))
             ]
           ]

@@ -6,7 +6,7 @@ use Rattle.bpf_insn.specs.Machine.{verdict_of}
 use Rattle.call_record.specs.Verdict.{action, is_through, kill_process, kill_thread}
 use Rattle.call_record.specs.Words.{IsRecord, word}
 use Rattle.call_tables.specs.Arch.{token_of}
-use Rattle.call_tables.specs.Machines.{x86_64_token}
+use Rattle.call_tables.specs.Machines.{s390_token, s390x_token, x86_64_token}
 use Rattle.call_tables.specs.Numbers.{HasCall, IsWithin, from_to}
 use Rattle.profile.specs.declared.rules.Rule.{Rule}
 use Rattle.profile.specs.Policy.{Policy, Says}
@@ -22,12 +22,17 @@ is_mild v = not (is_through v) && (not (action v == kill_process) && not (action
 abbrev pub IsNoCall : ℕ → ℕ → Type 0
 IsNoCall token nr = (token ≡ x86_64_token) × IsWithin nr (from_to 0x80000000 0xbfffffff)
 
--- the rule is not for this number, and for a lesser one if it is for the machine that has the number
+-- The number 0 with the token of s390x or s390, of which no call has it: their numbers begin with 1 (the kernel's
+-- arch/s390/kernel/syscalls/syscall.tbl).
+abbrev pub IsVacant : ℕ → ℕ → Type 0
+IsVacant token nr = (nr ≡ 0) × ((token ≡ s390x_token) ⊎ (token ≡ s390_token))
+
+-- The rule is not for this number. If it is for the machine that has the number, it is for a lesser one, or no call has this one.
 pub record IsBeyond (token nr : ℕ) (rule : Rule) : Type 0 where
   pub other : token_of rule.arch ≡ token → rule.nr ≢ nr
-  pub above : HasCall token nr rule.arch → rule.nr < nr
+  pub above : HasCall token nr rule.arch → (rule.nr < nr) ⊎ IsVacant token nr
 
--- a listed machine has the number, or it is no call; and it is above all that the rules have for that machine
+-- A listed machine has the number, or it is no call. It is above all that the rules have for that machine, or no call has it.
 pub record IsSpared (p : Policy) (token nr : ℕ) : Type 0 where
   pub listed : Any (HasCall token nr) p.machines ⊎ IsNoCall token nr
   pub beyond : All (IsBeyond token nr) p.rules

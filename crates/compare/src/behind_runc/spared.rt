@@ -1,7 +1,7 @@
 //! Whether a profile spares the calls that a stub answers.
 ghost use Rattle.std.specs.Prelude.{◌≡◌, ◌↔◌, ◌⊎◌, IsTrue, All, Any};
 ghost use Rattle.call_tables.specs.Numbers.{HasCall};
-ghost use Rattle.compare.specs.Spared.{AreSpared, IsNoCall, Spares, is_mild};
+ghost use Rattle.compare.specs.Spared.{AreSpared, IsNoCall, IsVacant, Spares, is_mild};
 ghost use Rattle.compare.specs.inner.Spans.{AreBeyond, AreLeft, AreLeftIn, cut, spans};
 
 use crate::behind_runc::stub::Calls;
@@ -11,8 +11,9 @@ use profile::{Profile, Rule, are_for};
 
 // Stretches of numbers, in each of which all are of the same machines.
 const SPANS: &[Numbers] = &[
+    Numbers { first: 0, last: 0 },
     Numbers {
-        first: 0,
+        first: 1,
         last: LEAST_X32_NUMBER - 1,
     },
     Numbers {
@@ -80,7 +81,21 @@ fn has_call(arch: Arch, token: u32, number: u32) -> bool
     arch.has_number(number)
 }
 
-// Whether a rule is for none of these numbers, and for one below them if it is for the machine that has the first of them.
+// Whether no call has a number: 0 on s390x and s390.
+fn is_vacant(token: u32, number: u32) -> bool
+    ensures { IsTrue result ↔ IsVacant token number }
+{
+    if number != 0 {
+        return false;
+    }
+    if token == Arch::LinuxS390x.token() {
+        return true;
+    }
+    token == Arch::LinuxS390.token()
+}
+
+// Whether a rule is for none of these numbers, and for one below them if it is for the machine that has the first of them and a call
+// has it.
 fn are_beyond(rule: &Rule, token: u32, numbers: Numbers) -> bool
     ensures { IsTrue result ↔ AreBeyond token numbers rule.now }
 {
@@ -91,6 +106,9 @@ fn are_beyond(rule: &Rule, token: u32, numbers: Numbers) -> bool
         return false;
     }
     if !has_call(rule.arch, token, numbers.first) {
+        return true;
+    }
+    if is_vacant(token, numbers.first) {
         return true;
     }
     rule.nr < numbers.first
