@@ -9,8 +9,8 @@ use Rattle.bpf_insn.specs.Machine.{Ends, Goes, Registers, Step, Stuck, start, st
 use Rattle.flatten.specs.declared.turns.Turn.{Turn}
 use Rattle.flatten.specs.declared.turns.Turn.TheVariants.{Answers, Passes}
 use Rattle.flatten.specs.declared.places.Turned.{Turned}
-use Rattle.flatten.specs.Unflat.{is_plain}
-use Rattle.flatten.specs.inner.Turns.{AreTurned, AreTurns, ArePlain, IsAbove, IsMore, IsTurn, IsTurned, IsTurnedBy, both, given, insn_of, is_return}
+use Rattle.flatten.specs.Unflat.{is_plain, is_return}
+use Rattle.flatten.specs.inner.Turns.{AreTurned, AreTurns, ArePlain, IsAbove, IsMore, IsTurn, IsTurned, IsTurnedBy, both, given, insn_of}
 use Rattle.flatten.proofs.RunLaws.{Quiet, Seen, behind, first_plain, from_step, goes_on, jumps, rest_plain, returns, seen}
 use Rattle.flatten.proofs.TurnLaws.{both_true, jump_plain, plain_append, return_plain}
 
@@ -20,7 +20,7 @@ pub turned_at : (older area : List Insn) (left : ℕ) (i o : Insn) (turn : Turn)
 turned_at older area left i o turn e is at = subst (λ b. IsTurnedBy b older area left i o) (sym e) (turn, is, at)
 
 -- as many instructions as before
-same_length : (older area p q : List Insn) → AreTurned older area p q → length q ≡ length p
+pub same_length : (older area p q : List Insn) → AreTurned older area p q → length q ≡ length p
 same_length older area [] [] h = refl
 same_length older area [] (o ∷ q) h = absurd h
 same_length older area (i ∷ p) [] h = absurd h

@@ -13,8 +13,8 @@ use Rattle.bpf_insn.specs.Code.{code_of, operation_of}
 use Rattle.bpf_insn.specs.Machine.{Ending, Ends, Goes, Registers, Step, Stuck, after_one, ending, follow, kept, loaded, loaded_x, perform}
 use Rattle.bpf_insn.specs.Machine.{perform_if, start, step, word_at}
 use Rattle.bpf_insn.proofs.CodeLaws.{operation_of-code_of}
-use Rattle.flatten.specs.Unflat.{is_plain, is_plain_by}
-use Rattle.flatten.specs.inner.Turns.{ArePlain, both, block, given, gives, insn, is_return, is_return_by}
+use Rattle.flatten.specs.Unflat.{is_plain, is_plain_by, is_return, is_return_by}
+use Rattle.flatten.specs.inner.Turns.{ArePlain, both, block, given, gives, insn}
 use Rattle.flatten.specs.inner.Turns.{jump_over, mapped, return_of}
 
 -- ---- single steps

@@ -15,7 +15,7 @@ use Rattle.bpf_insn.specs.Bytes.{insns_of}
 use Rattle.bpf_insn.specs.Machine.{start}
 use Rattle.kernel_check.proofs.RunLaws.{runs}
 use Rattle.flatten.specs.Stack.{GivesVerdict, IsFilter, IsFlat, StackGives}
-use Rattle.flatten.specs.Unflat.{Says, SaysAt, SaysOf, place_of}
+use Rattle.flatten.specs.Unflat.{SaysAt, SaysOf, place_of}
 use Rattle.flatten.specs.declared.unflat.Unflat.{Unflat}
 use Rattle.flatten.specs.inner.Turns.{AnswersAs, ArePlain, IsAbove, IsLowest, given}
 use Rattle.flatten.proofs.RunLaws.{from_step, returns}
@@ -98,13 +98,13 @@ is_flat filters made program so e is = record {
 
 -- ---- why there is none
 
-pub says_none : (filters : List (List ℕ)) (e : Unflat) → place_of e ≡ None → Says filters e
+pub says_none : (filters : List (List ℕ)) (e : Unflat) → place_of e ≡ None → SaysAt (place_of e) filters e
 says_none filters e h = subst (λ o. SaysAt o filters e) (sym h) tt
 
 pub says_at : (filters : List (List ℕ)) (place : ℕ) (filter : List ℕ) (e : Unflat) → slice_get filters place ≡ Some filter
-    → SaysOf place filter e → Says filters e
+    → SaysOf place filter e → SaysAt (place_of e) filters e
 says_at filters place filter e found h = by_case h.here where
-  by_case : (place_of e ≡ Some place) ⊎ (place_of e ≡ None) → Says filters e
+  by_case : (place_of e ≡ Some place) ⊎ (place_of e ≡ None) → SaysAt (place_of e) filters e
   by_case (inl here) = subst (λ o. SaysAt o filters e) (sym here) (filter, found, h.is)
   by_case (inr none) = says_none filters e none
 

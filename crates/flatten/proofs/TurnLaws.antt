@@ -10,9 +10,9 @@ use Rattle.bpf_insn.proofs.CodeLaws.{operation_of-code_of}
 use Rattle.flatten.specs.declared.turns.Turn.{Turn}
 use Rattle.flatten.specs.declared.turns.Turn.TheVariants.{Answers, Passes}
 use Rattle.flatten.specs.declared.places.Turned.{Turned}
-use Rattle.flatten.specs.Unflat.{is_plain, is_plain_by}
+use Rattle.flatten.specs.Unflat.{is_plain, is_plain_by, is_return}
 use Rattle.flatten.specs.inner.Turns.{AreTurns, ArePlain, Fits, IsMore, IsTurn, block, both, given, gives, insn}
-use Rattle.flatten.specs.inner.Turns.{is_return, jump_over, mapped, mapped_insn, return_of}
+use Rattle.flatten.specs.inner.Turns.{jump_over, mapped, mapped_insn, return_of}
 use Rattle.flatten.proofs.RunLaws.{behind, blocks, first_plain, more, one_answer, rest_plain}
 
 -- ---- plain instructions

@@ -1,6 +1,8 @@
 //! A filter above another.
-ghost use Rattle.std.specs.Prelude.{◌≡◌, ◌≤◌, ◌++◌, ◌+◌, [], List, IfOk, length};
+ghost use Rattle.std.specs.Prelude.{◌≡◌, ◌≤◌, ◌<◌, ◌++◌, ◌+◌, ◌*◌, [], ◌∷◌, List, Err, IfOk, length};
 ghost use Rattle.bpf_insn.specs.declared.instruction.Insn.{Insn as TheInsn};
+ghost use Rattle.flatten.specs.declared.unflat.Limit.TheVariants.{TooLong};
+ghost use Rattle.flatten.specs.Unflat.{most_above, returns_in};
 ghost use Rattle.flatten.specs.inner.Turns as spec;
 
 use crate::insns::{insn, is_return, return_of};
@@ -38,6 +40,8 @@ fn turned(
     ensures turned { IfOk result (λ o. (more : List TheInsn) → spec.IsTurned older.now (area.new.items ++ more) left insn.now o) }
     ensures turns { IfOk result (λ _. spec.AreTurns older.now area.new.items turns.new.items) }
     ensures more { IfOk result (λ _. spec.IsMore area.old.items area.new.items) }
+    ensures size { IfOk result (λ _. length area.new.items ≤ length area.old.items + returns_in (insn.now ∷ []) * (length older.now + 2)) }
+    ensures long { result ≡ Err TooLong → 4096 < length area.old.items + returns_in (insn.now ∷ []) * (length older.now + 2) }
 {
     if !is_return(insn) {
         return Ok(*insn);
@@ -60,6 +64,8 @@ fn put_turned(
     requires area_empty { area.old.items ≡ [] }
     ensures turned { IfOk result (λ _. spec.AreTurned older.now area.new.items newer.now program.new.items) }
     ensures more { IfOk result (λ _. spec.IsMore [] area.new.items) }
+    ensures size { IfOk result (λ _. length area.new.items ≤ returns_in newer.now * (length older.now + 2)) }
+    ensures long { result ≡ Err TooLong → 4096 < returns_in newer.now * (length older.now + 2) }
 {
     let mut turns = Vec::new(alloc);
     for (place, insn) in newer.iter().enumerate() {
@@ -78,6 +84,8 @@ pub(crate) fn above(alloc: Global, newer: &[Insn], older: &[Insn]) -> Result<Vec
     ensures above { IfOk result (λ program. spec.IsAbove newer.now older.now program.items) }
     ensures plain { IfOk result (λ program. spec.ArePlain program.items) }
     ensures small { IfOk result (λ program. length program.items ≤ 4096) }
+    ensures most { IfOk result (λ program. length program.items ≤ most_above (length older.now) newer.now) }
+    ensures long { result ≡ Err TooLong → 4096 < most_above (length older.now) newer.now }
 {
     let mut program = Vec::new(alloc);
     let mut area = Vec::new(alloc);

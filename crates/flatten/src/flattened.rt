@@ -1,8 +1,9 @@
 //! From the filters of a stack to the one that answers as they do.
-ghost use Rattle.std.specs.Prelude.{◌≡◌, ◌≤◌, IfErr, IfOk, None, length, map};
+ghost use Rattle.std.specs.Prelude.{◌≡◌, ◌≤◌, ◌<◌, Err, IfErr, IfOk, None, length, map};
+ghost use Rattle.flatten.specs.declared.unflat.Unflat.TheVariants.{TooLong};
 ghost use Rattle.bpf_insn.specs.Bytes.{insns_of};
 ghost use Rattle.flatten.specs.Stack.{IsFilter, IsFlat};
-ghost use Rattle.flatten.specs.Unflat.{Says, SaysOf, place_of};
+ghost use Rattle.flatten.specs.Unflat.{CanBeLong, Says, SaysAt, SaysOf, most_above, place_of};
 ghost use Rattle.flatten.specs.inner.Turns as spec;
 
 use crate::above::above;
@@ -49,6 +50,7 @@ fn accepted(alloc: Global, program: &[Insn]) -> Result<Vec<u8>, Unflat>
     ensures same { IfOk result (λ bytes. insns_of bytes.items ≡ program.now) }
     ensures filter { IfOk result (λ bytes. IsFilter bytes.items) }
     ensures fault { IfErr result (λ e. place_of e ≡ None) }
+    ensures short { result ≡ Err TooLong → ⊥ }
 {
     let Ok(bytes) = encoded(alloc, program) else {
         return Err(Unflat::OutOfMemory);
@@ -71,7 +73,9 @@ fn next_above(
     ensures above { IfOk result (λ program. spec.IsAbove (insns_of filter.now) older.now program.items) }
     ensures plain { IfOk result (λ program. spec.ArePlain program.items) }
     ensures small { IfOk result (λ program. length program.items ≤ 4096) }
+    ensures most { IfOk result (λ program. length program.items ≤ most_above (length older.now) (insns_of filter.now)) }
     ensures fault { IfErr result (SaysOf place filter.now) }
+    ensures long { result ≡ Err TooLong → 4096 < most_above (length older.now) (insns_of filter.now) }
 {
     let newer = match plain_insns(alloc, filter, place) {
         Ok(newer) => newer,
@@ -87,7 +91,8 @@ fn next_above(
 fn all_above(alloc: Global, filters: &[Vec<u8>]) -> Result<Vec<Insn>, Unflat>
     ensures small { IfOk result (λ program. length program.items ≤ 4096) }
     ensures right { IfOk result (λ program. spec.AnswersAs (map (λ f. f.items) filters.now) program.items) }
-    ensures fault { IfErr result (Says (map (λ f. f.items) filters.now)) }
+    ensures fault { IfErr result (λ e. SaysAt (place_of e) (map (λ f. f.items) filters.now) e) }
+    ensures long { result ≡ Err TooLong → CanBeLong (map (λ f. f.items) filters.now) }
 {
     let Ok(mut program) = lowest(alloc) else {
         return Err(Unflat::OutOfMemory);

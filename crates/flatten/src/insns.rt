@@ -1,6 +1,6 @@
 //! Single instructions.
 ghost use Rattle.std.specs.Prelude.{◌≡◌};
-ghost use Rattle.flatten.specs.Unflat.{is_plain};
+ghost use Rattle.flatten.specs.Unflat.{is_plain, is_return};
 ghost use Rattle.flatten.specs.inner.Turns as spec;
 
 use bpf_insn::{Insn, Operation};
@@ -27,7 +27,7 @@ pub(crate) fn return_of(k: u32) -> Insn
 
 /// Whether an instruction returns its own number.
 pub(crate) fn is_return(insn: &Insn) -> bool
-    ensures { result ≡ spec.is_return insn.now }
+    ensures { result ≡ is_return insn.now }
 {
     match insn.operation() {
         Some(Operation::ReturnK) => true,

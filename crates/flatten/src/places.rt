@@ -1,7 +1,8 @@
 //! Which turn each word has.
-ghost use Rattle.std.specs.Prelude.{◌≤◌, ◌++◌, List, IfOk, IfSome, length};
+ghost use Rattle.std.specs.Prelude.{◌≡◌, ◌≤◌, ◌<◌, ◌+◌, ◌++◌, List, Err, IfOk, IfSome, length};
 ghost use Rattle.std.specs.List.{Contains};
 ghost use Rattle.bpf_insn.specs.declared.instruction.Insn.{Insn as TheInsn};
+ghost use Rattle.flatten.specs.declared.unflat.Limit.TheVariants.{TooLong};
 ghost use Rattle.flatten.specs.inner.Turns as spec;
 
 use crate::turns::{Turn, turn_of};
@@ -41,6 +42,8 @@ pub(crate) fn turn_at(
     ensures turn { IfOk result (λ turn. (more : List TheInsn) → spec.IsTurn older.now (area.new.items ++ more) word turn) }
     ensures turns { IfOk result (λ _. spec.AreTurns older.now area.new.items turns.new.items) }
     ensures more { IfOk result (λ _. spec.IsMore area.old.items area.new.items) }
+    ensures size { IfOk result (λ _. length area.new.items ≤ length area.old.items + (length older.now + 2)) }
+    ensures long { result ≡ Err TooLong → 4096 < length area.old.items + (length older.now + 2) }
 {
     if let Some(turn) = known(turns, word) {
         return Ok(turn);

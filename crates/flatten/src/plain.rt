@@ -1,5 +1,6 @@
 //! The instructions of a filter that can be put above others.
-ghost use Rattle.std.specs.Prelude.{◌≡◌, ◌≤◌, IfErr, IfOk, MatchOption, Some, false, length, slice_get};
+ghost use Rattle.std.specs.Prelude.{◌≡◌, ◌≤◌, Err, IfErr, IfOk, MatchOption, Some, false, length, slice_get};
+ghost use Rattle.flatten.specs.declared.unflat.Unflat.TheVariants.{TooLong};
 ghost use Rattle.bpf_insn.specs.Bytes.{insns_of};
 ghost use Rattle.bpf_insn.specs.Program.{insns};
 ghost use Rattle.flatten.specs.Stack.{IsFilter};
@@ -44,6 +45,7 @@ pub(crate) fn plain_insns(alloc: Global, filter: &[u8], place: usize) -> Result<
     ensures plain { IfOk result (λ all. spec.ArePlain all.items) }
     ensures small { IfOk result (λ all. length all.items ≤ 4096) }
     ensures fault { IfErr result (SaysOf place filter.now) }
+    ensures short { result ≡ Err TooLong → ⊥ }
 {
     let program = match Program::view(filter) {
         Ok(program) => program,

@@ -1,7 +1,8 @@
 //! What stands in the place of a return, so that the older filters are asked too.
-ghost use Rattle.std.specs.Prelude.{◌≡◌, ◌≤◌, ◌++◌, ℕ, List, IfOk, true, length};
+ghost use Rattle.std.specs.Prelude.{◌≡◌, ◌≤◌, ◌<◌, ◌+◌, ◌++◌, ℕ, List, Err, IfOk, true, length};
 ghost use Rattle.std.specs.List.{list_all};
 ghost use Rattle.bpf_insn.specs.declared.instruction.Insn.{Insn as TheInsn};
+ghost use Rattle.flatten.specs.declared.unflat.Limit.TheVariants.{TooLong};
 ghost use Rattle.flatten.specs.inner.Turns as spec;
 
 use crate::insns::{both, insn, is_return, return_of};
@@ -56,7 +57,8 @@ fn mapped(word: u32, insn: &Insn) -> Insn
 
 // Adds the instructions of an older filter under a newer verdict.
 fn put_mapped(area: &mut Vec<Insn>, older: &[Insn], word: u32) -> Result<(), Limit>
-    ensures { IfOk result (λ _. area.new.items ≡ area.old.items ++ spec.mapped word older.now) }
+    ensures added { IfOk result (λ _. area.new.items ≡ area.old.items ++ spec.mapped word older.now) }
+    ensures short { result ≡ Err TooLong → ⊥ }
 {
     for insn in older {
         area.push(mapped(word, insn))?;
@@ -66,7 +68,8 @@ fn put_mapped(area: &mut Vec<Insn>, older: &[Insn], word: u32) -> Result<(), Lim
 
 // Adds an older filter under a newer verdict, which begins with empty registers.
 fn put_block(area: &mut Vec<Insn>, older: &[Insn], word: u32) -> Result<(), Limit>
-    ensures { IfOk result (λ _. area.new.items ≡ area.old.items ++ spec.block word older.now) }
+    ensures added { IfOk result (λ _. area.new.items ≡ area.old.items ++ spec.block word older.now) }
+    ensures short { result ≡ Err TooLong → ⊥ }
 {
     area.push(insn(0x00, 0))?;
     area.push(insn(0x01, 0))?;
@@ -80,6 +83,8 @@ fn passed(area: &mut Vec<Insn>, older: &[Insn], word: u32) -> Result<Turn, Limit
     requires small { length area.old.items ≤ 4096 }
     ensures turn { IfOk result (λ turn. (more : List TheInsn) → spec.IsTurn older.now (area.new.items ++ more) word turn) }
     ensures more { IfOk result (λ _. spec.IsMore area.old.items area.new.items) }
+    ensures size { IfOk result (λ _. length area.new.items ≤ length area.old.items + (length older.now + 2)) }
+    ensures long { result ≡ Err TooLong → 4096 < length area.old.items + (length older.now + 2) }
 {
     let at = area.len() as u32;
     put_block(area, older, word)?;
@@ -97,6 +102,8 @@ pub(crate) fn turn_of(area: &mut Vec<Insn>, older: &[Insn], word: u32) -> Result
     requires small { length area.old.items ≤ 4096 }
     ensures turn { IfOk result (λ turn. (more : List TheInsn) → spec.IsTurn older.now (area.new.items ++ more) word turn) }
     ensures more { IfOk result (λ _. spec.IsMore area.old.items area.new.items) }
+    ensures size { IfOk result (λ _. length area.new.items ≤ length area.old.items + (length older.now + 2)) }
+    ensures long { result ≡ Err TooLong → 4096 < length area.old.items + (length older.now + 2) }
 {
     let answer = first_answer(older, word);
     if all_give(older, word, answer) {

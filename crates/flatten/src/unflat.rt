@@ -1,5 +1,7 @@
 //! Why no filter is made of a stack.
 ghost use Rattle.std.specs.Prelude.{◌≡◌, None};
+ghost use Rattle.flatten.specs.declared.unflat.Limit.TheVariants.{OutOfMemory, TooLong as LimitTooLong};
+ghost use Rattle.flatten.specs.declared.unflat.Unflat.TheVariants.{TooLong};
 ghost use Rattle.flatten.specs.Unflat.{place_of};
 
 use bpf_insn::ViewError;
@@ -35,7 +37,8 @@ pub(crate) enum Limit {
 impl Limit {
     /// The same of a stack.
     pub(crate) fn told(self) -> Unflat
-        ensures { place_of result ≡ None }
+        ensures place { place_of result ≡ None }
+        ensures long { result ≡ TooLong → self ≡ LimitTooLong }
     {
         match self {
             Limit::TooLong => Unflat::TooLong,
@@ -45,12 +48,20 @@ impl Limit {
 }
 
 impl From<AllocError> for Limit {
+    ghost use Rattle.std.specs.Prelude.{◌≡◌};
+
+    ghost from_gives = { λ _ e. e ≡ OutOfMemory };
+
     fn from(_error: AllocError) -> Limit {
         Limit::OutOfMemory
     }
 }
 
 impl<T: Drop> From<AllocFailed<T>> for Limit {
+    ghost use Rattle.std.specs.Prelude.{◌≡◌};
+
+    ghost from_gives = { λ _ e. e ≡ OutOfMemory };
+
     fn from(_error: AllocFailed<T>) -> Limit {
         Limit::OutOfMemory
     }

@@ -4,7 +4,8 @@ use Rattle.std.specs.Prelude.{if◌then◌else◌, Option, Some, None}
 use Rattle.std.specs.Option.{option_map}
 use Rattle.bpf_insn.specs.declared.instruction.Insn.{Insn}
 use Rattle.bpf_insn.specs.Machine.{Ends, Goes, Registers, Step, Stuck, step}
-use Rattle.flatten.specs.inner.Turns.{ArePlain, given, is_return, return_of}
+use Rattle.flatten.specs.Unflat.{is_return}
+use Rattle.flatten.specs.inner.Turns.{ArePlain, given, return_of}
 use Rattle.flatten.proofs.RunLaws.{Quiet, Seen, first_plain, from_step, goes_on, rest_plain, returns, seen}
 use Rattle.other_calls.specs.inner.Guard.{turn, turned}
 

@@ -1,7 +1,7 @@
 //! Single instructions.
 ghost use Rattle.std.specs.Prelude.{◌≡◌};
-ghost use Rattle.flatten.specs.Unflat.{is_plain};
-ghost use Rattle.flatten.specs.inner.Turns.{insn, is_return, return_of};
+ghost use Rattle.flatten.specs.Unflat.{is_plain, is_return};
+ghost use Rattle.flatten.specs.inner.Turns.{insn, return_of};
 
 use bpf_insn::{Insn, Operation};
 

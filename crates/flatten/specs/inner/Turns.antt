@@ -4,16 +4,13 @@ use Rattle.std.specs.Prelude.{if◌then◌else◌, reverse}
 use Rattle.std.specs.List.{All, AllZip, list_all}
 use Rattle.std.specs.Option.{option_map}
 use Rattle.call_record.specs.Verdict.{allow, strictest_of}
-use Rattle.bpf_insn.specs.declared.code.Operation.{Operation}
-use Rattle.bpf_insn.specs.declared.code.Operation.TheVariants.{ReturnK}
 use Rattle.bpf_insn.specs.declared.instruction.Insn.{Insn}
-use Rattle.bpf_insn.specs.Code.{operation_of}
 use Rattle.bpf_insn.specs.Machine.{Registers, ending, start}
 use Rattle.flatten.specs.declared.turns.Turn.{Turn}
 use Rattle.flatten.specs.declared.turns.Turn.TheVariants.{Answers, Passes}
 use Rattle.flatten.specs.declared.places.Turned.{Turned}
 use Rattle.flatten.specs.Stack.{GivesVerdict, IsFilter}
-use Rattle.flatten.specs.Unflat.{is_plain}
+use Rattle.flatten.specs.Unflat.{is_plain, is_return}
 
 -- the verdict that is given from a position on
 abbrev pub given : List Insn → ℕ → Registers → List ℕ → Option ℕ
@@ -21,14 +18,6 @@ given p pc s r = option_map (λ (end : ℕ × ℕ). end.0) (ending p pc s r)
 
 abbrev pub ArePlain : List Insn → Type 0
 ArePlain p = list_all is_plain p ≡ true
-
--- it returns its own number
-abbrev pub is_return_by : Option Operation → Bool
-is_return_by (Some ReturnK) = true
-is_return_by other = false
-
-abbrev pub is_return : Insn → Bool
-is_return i = is_return_by (operation_of i.code)
 
 abbrev pub insn : ℕ → ℕ → ℕ → ℕ → Insn
 insn code jt jf k = record { code = code; jt = jt; jf = jf; k = k }

@@ -6,7 +6,8 @@ use Rattle.call_tables.specs.declared.numbers.Numbers.{Numbers}
 use Rattle.call_tables.specs.Arch.{token_of}
 use Rattle.call_tables.specs.Numbers.{own_numbers}
 use Rattle.bpf_insn.specs.declared.instruction.Insn.{Insn}
-use Rattle.flatten.specs.inner.Turns.{insn, is_return, return_of}
+use Rattle.flatten.specs.Unflat.{is_return}
+use Rattle.flatten.specs.inner.Turns.{insn, return_of}
 
 -- KILL_THREAD in the place of ALLOW, and ALLOW in the place of all else
 abbrev pub turn : ℕ → ℕ

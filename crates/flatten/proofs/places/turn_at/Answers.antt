@@ -1,6 +1,7 @@
 use Rattle.std.proofs.Common.{subst}
 use Rattle.std.specs.List.{Contains}
 use Rattle.flatten.proofs.TurnLaws.{known_turn, none_added, turn_pushed}
+use Rattle.flatten.proofs.SizeLaws.{never_long}
 use Rattle.flatten.proofs.places.turn_at.Goals as goal
 
 pub returns-in-Some-clause-turn : goal.returns-in-Some-clause-turn
@@ -15,3 +16,6 @@ pub returns-clause-turns : goal.returns-clause-turns
 returns-clause-turns c =
     turn_pushed c.args.older.now c.args.area.now.items c.turn_of.new.area.items c.args.turns.now.items c.push.new.self.items c.args.word
     c.in_ok-turn.turn c.in_ok-turn.ensures.more c.requires.turns c.in_ok-turn.ensures.turn c.in_ok-push.ensures.items
+
+pub returns-in_err-push-clause-long : goal.returns-in_err-push-clause-long
+returns-in_err-push-clause-long c long = absurd (never_long c.from_residual-in_err-push.result c.from_residual-in_err-push.ensures.1 long)
