@@ -113,10 +113,10 @@ pub too_long : {V : Type 0} (items : V → List ℕ) (all : List V) (place older
     → 4096 < most_above older (insns_of f) → CanBeLong (map items all)
 too_long items all place older f e had is =
     let last : most_from 1 (map items (take (place + 1) all)) ≡ most_above (most_from 1 (map items (take place all))) (insns_of f) =
-        ap (most_from 1) e ∙ most_last 1 (map items (take place all)) f in
+    ap (most_from 1) e ∙ most_last 1 (map items (take place all)) f in
     let further = above_more older (most_from 1 (map items (take place all))) (insns_of f) had in
     let same : most_from 1 (take (place + 1) (map items all)) ≡ most_from 1 (map items (take (place + 1) all)) =
-        ap (most_from 1) (take-map items (place + 1) all) in
+    ap (most_from 1) (take-map items (place + 1) all) in
     (place + 1, omega (arith, last, further, is, same))
 
 pub says : (filters : List (List ℕ)) (e : Unflat) → SaysAt (place_of e) filters e → (e ≡ LongStack → CanBeLong filters) → Says filters e
