@@ -14,8 +14,8 @@ abbrev pub IsAside : List Calls → List ℕ → Type 0
 IsAside aside r = Any (IsOf r) aside
 
 -- A filter is right but for calls that are left aside, and for its stub if it has one. On each record that is not of those calls, and
--- that the stub does not answer, it gives the verdict that the profile says, and no other. On each that the stub answers it gives ENOSYS,
--- and the profile's verdict is its default, which refuses the call without a kill, or the record is no call.
+-- that the stub does not answer, it gives the profile's verdict and no other. On each that the stub answers it gives ENOSYS. There the
+-- profile's verdict is its default, which refuses the call without a kill, or the record is no call.
 pub record IsRightBut (p : Policy) (program : List Insn) (answered aside : List Calls) : Type 0 where
   pub others : (r : List ℕ) → IsRecord r → (IsAside aside r → ⊥) → (IsAnswered answered r → ⊥)
       → (v : ℕ) → (verdict_of program r ≡ Some v) ↔ Says p r v

@@ -71,8 +71,8 @@ fn convictions_in(
     }
 }
 
-/// The record that was found to convict a filter, if one was, and one of each further call that is found of which the filter gives another
-/// verdict than the bundle says. None of the further ones is of a call that is left aside.
+/// The record that was found to convict a filter, if one was. Then one of each further call on which filter and bundle are found to differ.
+/// None of the further ones is of a call that is left aside.
 pub fn convictions_but(
     alloc: Global,
     native: Arch,

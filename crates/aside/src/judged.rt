@@ -36,7 +36,8 @@ pub struct But {
     pub judged: Judged,
 }
 
-// A record that convicts a filter convicts one that is the same on all records but those of these calls, unless it is of one of them.
+// A filter is the same as another on all records but those of these calls. So a record that convicts it convicts the other, unless it is of
+// one of them.
 fn of_found(aside: &[Calls], found: &Conviction) -> Result<Evidence, Unready>
     ensures { (native : TheArch) (bundle same filter : List ℕ) → AreTaken native bundle filter
         → IsSameBut aside.now (insns_of same) (insns_of filter) → Convicts native bundle same found.now
@@ -49,7 +50,7 @@ fn of_found(aside: &[Calls], found: &Conviction) -> Result<Evidence, Unready>
     Ok(Evidence::Convicting(*found))
 }
 
-// What is judged of a filter, by what is judged of one that is the same on all records but those of these calls, and has so many
+// What is judged of a filter, by what is judged of another. That one is the same on all records but those of these calls, and has so many
 // instructions more in front.
 fn of_same(
     aside: &[Calls],

@@ -103,8 +103,8 @@ StopsAtLog folder logs (CannotRead name) = BreaksAt folder logs name.now
 StopsAtLog folder logs OutOfMemory = Unit {0}
 StopsAtLog folder logs other = ⊥
 
--- the exit status: 0 where the answer is yes or it was done, 1 where it is no, 4 where what was given is refused, 2 or 3 where the
--- program stopped
+-- The exit status: 0 if the answer is yes or it was done, 1 if it is no. 4 if what was given is refused, and 2 or 3 if the program
+-- stopped.
 abbrev pub exit_status : Result Bool Stop → ℕ
 exit_status (Ok true) = 0
 exit_status (Ok false) = 1
@@ -128,8 +128,8 @@ leave_of p = record { unnamed = asks (codes "calls") p; x32 = asks (codes "witho
 abbrev pub asks_but : Parts → Bool
 asks_but p = (leave_of p).unnamed || (leave_of p).x32
 
--- `adapt` and `learn` tell on standard error what they changed or added, `recover`, `join`, `meet` and `stack` which form was written or
--- why none was, `tune` what calls cost, and `certify` with `runc` what the stub answers, also where it was done; no other command does
+-- These commands tell something on standard error even if they were done: `adapt` and `learn` what they changed or added; `recover`,
+-- `join`, `meet` and `stack` which form was written, or why none was; `tune` what calls cost; `certify` with `runc` what the stub answers.
 abbrev pub TellsChanges : Command → Parts → Type 0
 TellsChanges Certify p = asks_runc p ≡ true
 TellsChanges Adapt p = Unit {0}
@@ -160,8 +160,8 @@ AskedChanges given = OfAsked TellsChanges (is_json given.0) given
 abbrev pub AskedRefusal : Given → Type 0
 AskedRefusal given = OfAsked TellsRefusal (is_json given.0) given
 
--- What is on standard error: nothing but changes where the answer is yes, nothing but these and an explanation where it is no, and the
--- line that says why where the program stopped.
+-- What is on standard error: if the answer is yes, nothing but changes; if it is no, these and an explanation; if the program stopped, the
+-- line that says why.
 abbrev pub Tells : {E : Type 0} → (E → Option (List ℕ)) → (E → Failures) → E → E → List (List ℕ) → Given → Result Bool Stop
     → Type 0
 Tells held failures old new arguments given (Ok true) = AskedChanges given ⊎ (new ≡ old)

@@ -51,7 +51,7 @@ pub record TellsRecord {O E : Type 0} (held : O → Option (List ℕ)) (failures
   pub written : Wrote held failures out out' line
   pub why : MayTellWhy shown dropped err err' native bundle call
 
--- the calls that a stub of the filter answers were reported, and whether the whole filter was judged, as far as the sink took the text
+-- The calls that a stub of the filter answers were reported, as far as the sink took the text. So was whether the whole filter was judged.
 abbrev pub TellsStub : {E : Type 0} → (E → Option (List ℕ)) → (E → Failures) → E → E → Arch → List ℕ → List ℕ → List Calls → Bool
     → Type 0
 TellsStub shown dropped err err' native filter rest answered whole =

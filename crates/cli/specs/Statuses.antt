@@ -20,7 +20,7 @@ pub record AreRight (folder : Option Folder) (native : Arch) (bundle filter : Li
   pub policy : Policy
   pub right : IsRightFor native b policy (insns_of f)
 
--- The bytes of one file are taken as a bundle, and those of the other are a filter that is right for it, but for the calls that a stub in
+-- The bytes of one file are taken as a bundle. Those of the other are a filter that is right for it, but for the calls that a stub in
 -- front of it answers. The bundle refuses these by its default, without a kill.
 pub record AreRightBehind (folder : Option Folder) (native : Arch) (bundle filter : List ℕ) : Type 0 where
   pub b : List ℕ
@@ -47,8 +47,8 @@ AreRightAtLeast folder native bundle filter leave =
     AreRight folder native bundle filter
     ⊎ (AreRightBehind folder native bundle filter ⊎ AreRightBut folder native bundle filter leave)
 
--- The files are taken as bundles. Where it is known what the input had and the output has, the script that the input had was answered by
--- the machine whose first judge for each container is its bundle's profile.
+-- The files are taken as bundles. If it is known what the input had and the output has, the script of the input was answered by a machine.
+-- Its first judge for each container is the profile of the container's bundle.
 pub record HasRun (folder : Option Folder) (native : Arch) (bundles : List (List ℕ)) (input out out' : Option (List ℕ)) : Type 0 where
   pub texts : List (List ℕ)
   pub have : HaveBundles native folder bundles texts

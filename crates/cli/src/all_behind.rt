@@ -1,4 +1,4 @@
-//! What `ccell certify` does of a filter behind the stub that runc puts in front of it, if it does not stop at the first call.
+//! What `ccell certify .. runc all` does: it judges a filter behind runc's stub, and does not stop at the first call.
 ghost use Rattle.std.specs.Prelude.{◌≡◌, ◌⊎◌, ℕ, IfOk, List, Ok, OnErr};
 ghost use Rattle.call_tables.specs.declared.arch.Arch.{Arch as TheArch};
 ghost use Rattle.compare.specs.Behind.{CertifiesAllBehind, IsBehind, IsJudgedBehind, IsNoConviction, WritesBehind};
@@ -141,8 +141,8 @@ fn judge<O: Sink, E: Sink>(
     Ok(done)
 }
 
-/// Writes a certificate that a filter behind runc's stub answers what a bundle says, or a record of each call that is found on which it
-/// does not. Standard error tells which calls the stub answers.
+/// Writes a certificate that a filter behind runc's stub answers what a bundle says. Or it writes a record of each call that is found on
+/// which it does not. Standard error tells which calls the stub answers.
 pub(crate) fn certify_all_behind<'a, F: Files, O: Sink, E: Sink>(
     alloc: Global,
     native: Arch,

@@ -347,8 +347,8 @@ fn carry_out<'a, F: Files, I: Source, O: Sink, E: Sink>(
     }
 }
 
-/// Runs the program on the arguments after its name, and gives the exit status: 0 done, 1 no, 2 a fault of the command line, 3 a file,
-/// a stream or memory that failed, 4 what was given cannot be read.
+/// Runs the program on the arguments after its name, and returns the exit status: 0 done, 1 no, 2 a fault of the command line. 3: a file,
+/// a stream or memory failed. 4: what was given cannot be read.
 pub fn dispatch<F: Files, I: Source, O: Sink, E: Sink>(
     alloc: Global,
     arguments: &[&str],

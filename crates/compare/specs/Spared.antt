@@ -1,4 +1,4 @@
--- Which calls a stub may answer, so that a filter with it still does what a profile says, but for the error of calls that both refuse.
+-- Which calls a stub may answer. A filter with it still does what the profile says, but for the error of calls that both refuse.
 use Rattle.std.specs.Prelude.{ℕ, ◌≡◌, ◌≢◌, ◌<◌, ◌⊎◌, ◌↔◌, ◌==◌, ◌&&◌, Bool, not, IsTrue, List, Some}
 use Rattle.std.specs.List.{All, Any}
 use Rattle.bpf_insn.specs.declared.instruction.Insn.{Insn}
@@ -49,9 +49,9 @@ pub record Spares (p : Policy) (answered : List Calls) : Type 0 where
 abbrev pub IsLeft : Policy → List ℕ → Type 0
 IsLeft p r = Says p r p.default_word ⊎ IsNoCall (word r 1) (word r 0)
 
--- A filter is right but for its stub: on each record that the stub does not answer it gives the verdict that the profile says, and no
--- other; on each that it answers it gives ENOSYS, and the profile's verdict is its default, which refuses the call without a kill, or
--- the record is no call.
+-- A filter is right but for its stub. On each record that the stub does not answer it gives the profile's verdict, and no other. On each
+-- that it answers it gives ENOSYS. There the profile's verdict is its default, which refuses the call without a kill, or the record is no
+-- call.
 pub record IsRightBehind (p : Policy) (program : List Insn) (answered : List Calls) : Type 0 where
   pub others : (r : List ℕ) → IsRecord r → (IsAnswered answered r → ⊥) → (v : ℕ) → (verdict_of program r ≡ Some v) ↔ Says p r v
   pub answers : (r : List ℕ) → IsRecord r → IsAnswered answered r → verdict_of program r ≡ Some enosys

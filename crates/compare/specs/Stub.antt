@@ -1,5 +1,5 @@
--- The instructions that runc puts in front of a container's filter, its ENOSYS stub: calls of numbers that it does not know fail with
--- ENOSYS, as on a kernel that lacks them, and all others are left to the filter (runc's package libcontainer/seccomp/patchbpf).
+-- The instructions that runc puts in front of a container's filter, its ENOSYS stub. Calls of numbers that it does not know fail with
+-- ENOSYS, as on a kernel that lacks them. All others are left to the filter (runc's package libcontainer/seccomp/patchbpf).
 use Rattle.std.specs.Prelude.{ℕ, ◌≡◌, ◌<◌, List, length, drop, Some}
 use Rattle.std.specs.List.{Any}
 use Rattle.bpf_insn.specs.declared.instruction.Insn.{Insn}

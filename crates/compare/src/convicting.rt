@@ -7,8 +7,8 @@ use explain::explanation;
 use maker::Conviction;
 use std::alloc::Global;
 
-/// Explains what a bundle, which is read for a native machine, says of the very record that was found to convict a filter, if there
-/// is memory.
+/// Explains what a bundle says of the very record that was found to convict a filter, if there is memory. The bundle is read for a native
+/// machine.
 pub fn explain_found(
     alloc: Global,
     native: Arch,

@@ -21,8 +21,7 @@ pub record IsRightProgram (policy : Policy) (filter : List ℕ) : Type 0 where
   pub accepted : IsAccepted (insns_of filter)
   pub right : IsRight policy (insns_of filter)
 
--- The bytes are a program that the kernel accepts, and on each call record it answers what the rules that were added say, and
--- nothing else.
+-- The bytes are a program that the kernel accepts. On each call record it answers what the rules that were added say, and nothing else.
 pub record AnswersWhatWasAdded (machines : List ℕ) (default_action : ℕ) (rules : List AddedRule) (filter : List ℕ) : Type 0 where
   pub program : view_fault filter ≡ None
   pub accepted : IsAccepted (insns_of filter)

@@ -1,6 +1,6 @@
 //! Rules as another program adds them, one by one: for a machine and a number of a call an action, under conditions on
 //! arguments. They are plain values, as C has them. [`profile_of`] makes the profile that says of each call record what the
-//! rules say, or names the machine or the rule, by its place, for which there is none.
+//! rules say. Or it names the machine or the rule, by its place, for which there is none.
 mod condition;
 mod fault;
 mod given;

@@ -107,8 +107,8 @@ OldFiltersStay =
     → container_at id (world_after F commands) ≡ Some c → container_at id (step F o (world_after F commands)).1 ≡ Some d
     → goes_on_in id o m c ≡ Some t → live_task m d.processes.tasks ≡ Some u → StandsBehind t.filters u.filters
 
--- In a container a load number stands for one judge: so lists of filters that have the same numbers are the same, which is
--- what is compared before one task's list is given to its group.
+-- In a container a load number stands for one judge. So lists of filters that have the same numbers are the same. Numbers are what is
+-- compared before one task's list is given to its group.
 abbrev pub LoadsTellFilters : Type 0
 LoadsTellFilters =
     (F : First) (commands : List Command) (id : List ℕ) (c : Container) → container_at id (world_after F commands) ≡ Some c
@@ -146,10 +146,10 @@ may_be_continued v b = not (is_stricter v user_notif) && is_continue b.response
 abbrev pub IsDeniedStart : Reply → Type 0
 IsDeniedStart reply = (v : ℕ) × (reply ≡ Refused (StartDenied v))
 
--- In a run of these commands with these replies, where there were no containers before: a call that the profile refuses with
--- which its container was made is not carried out, whoever of its tasks presents it, with whatever further filters, and
--- whatever a listener responds where the profile's verdict is stricter than one that notifies; nor does a container start
--- whose profile refuses the execve with which it begins. Both are told by the reply at the command's place.
+-- In a run of these commands with these replies, with no containers before it: a call that its container's profile refuses is not carried
+-- out. So it is whoever of the tasks presents it, and with whatever further filters. So it is whatever a listener responds, if the profile's
+-- verdict is stricter than one that notifies. Nor does a container start whose profile refuses the execve with which it begins. The reply at
+-- the command's place tells both.
 pub record RefusesIn (commands : List Command) (replies : List Reply) : Type 0 where
   pub call : (i : ℕ) (id : List ℕ) (given : Checked) (task : ℕ) (r : Record) (b : Beside)
       → slice_get commands i ≡ Some (Call id task r b) → MadeBy by_profile (take i commands) id given

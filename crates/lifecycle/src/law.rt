@@ -37,8 +37,8 @@ pub fn old_filters_stay()
     ensures { OldFiltersStay }
 {}
 
-/// The reply to a call that the profile refuses with which its container was made says that it is not carried out, unless a
-/// listener may continue it, and the reply to the start of a container whose profile refuses its first call says so.
+/// The reply to a call that its container's profile refuses says that it is not carried out, unless a listener may continue it. So does the
+/// reply to the start of a container whose profile refuses its first call.
 pub fn refused_is_not_carried_out()
     ensures { RefusedIsNotCarriedOut }
 {}

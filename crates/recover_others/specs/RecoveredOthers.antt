@@ -24,8 +24,8 @@ pub record SaysAllowing (p : Policy) (r : List ℕ) (v : ℕ) : Type 0 where
 abbrev pub IsRightAllowing : Policy → List Insn → Type 0
 IsRightAllowing p program = (r : List ℕ) → IsRecord r → (v : ℕ) → (verdict_of program r ≡ Some v) ↔ SaysAllowing p r v
 
--- The bundle means a profile. The bytes are a program that the kernel accepts, and which gives each call of a listed machine the verdict
--- that the profile says of it, and no other, and each other record ALLOW.
+-- The bundle means a profile. The bytes are a program that the kernel accepts. It gives each call of a listed machine the profile's verdict
+-- and no other, and each other record ALLOW.
 pub record MeansAllowing (native : Arch) (bundle filter : List ℕ) : Type 0 where
   pub policy : Policy
   pub means : IsBundle native bundle policy

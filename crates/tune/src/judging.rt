@@ -23,7 +23,7 @@ pub struct Cost {
     pub length: usize,
 }
 
-/// The bytes of a filter and of a certificate to which the checker says yes, and what the counted calls cost in the filter that `export`
+/// The bytes of a filter and of a certificate to which the checker says yes. Also what the counted calls cost in the filter that `export`
 /// writes and in this one.
 #[derive(Drop)]
 pub struct Tuned {
@@ -187,8 +187,8 @@ fn tuned_by(alloc: Global, native: Arch, bundle: &[u8], counts: &[Count]) -> Res
     }
 }
 
-/// A filter that is right for the profile that a bundle means, which is read for a native machine, and in which the counted calls execute
-/// as few instructions as were found: the one that `export` writes, with the numbers of the native machine's calls asked for in another
+/// A filter that is right for the profile that a bundle means for a native machine. In it the counted calls execute as few instructions as
+/// were found. It is the one that `export` writes, with the numbers of the native machine's calls asked for in another
 /// order, or else that one itself. Calls that Linux answers without a filter weigh nothing.
 pub fn tune_bundle(
     alloc: Global,

@@ -1,9 +1,9 @@
 //! Filters in which counted calls execute few instructions.
 //!
-//! Of the filter that `export` writes, `follow` tells what decides each number of the native machine's calls, and `blocks` puts numbers
-//! together that go one way. `orders` finds the order of the tests of a number that costs least, `lines` writes these tests, and `linked`
-//! puts them in front of the filter, without what no path reaches then. Nothing is proved of that: `judging` has what comes of it judged,
-//! and promises no more than `export`.
+//! `follow` tells what decides each number of the native machine's calls in the filter that `export` writes. `blocks` puts numbers together
+//! that go one way. `orders` finds the order of the tests of a number that costs least, and `lines` writes these tests. `linked` puts them in
+//! front of the filter, without what no path reaches then. Nothing is proved of that: `judging` has what comes of it judged, and promises no
+//! more than `export`.
 #![tactic(auto)]
 
 mod blocks;

@@ -1,4 +1,4 @@
--- What a second profile allows beside a first one, by whether a call is told that it allows more, and one that it allows no more.
+-- What a second profile allows beside a first one: whether a call is reported that it allows more, and one that it allows no more.
 use Rattle.std.specs.Prelude.{Bool, true, false}
 use Rattle.compare.specs.declared.sides.Sides.{Sides}
 use Rattle.compare.specs.declared.sides.Sides.TheVariants.{Alike, NoMore, NoLess, MoreAndLess}

@@ -77,9 +77,9 @@ fn of_found(
     Ok(left)
 }
 
-/// If a record was judged to convict a filter behind a stub: this one, and one of each further call that is found of which the filter
-/// gives another verdict than the bundle says, which is read for a native machine. Where the rest was asked about, none of the further
-/// ones is one that the stub answers. Else there is none.
+/// If a record was judged to convict a filter behind a stub: this one. Then one of each further call on which filter and bundle are found
+/// to differ; the bundle is read for a native machine. If the rest was asked about, the stub answers none of the further ones. Else there is
+/// none.
 pub fn convictions_behind(
     alloc: Global,
     native: Arch,

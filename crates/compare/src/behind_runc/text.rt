@@ -75,8 +75,8 @@ fn put_whole(text: &mut String, whole: bool) -> Result<(), AllocError>
     Ok(())
 }
 
-/// Tells which calls a stub of so many bytes answers, a line for each range of numbers, by the names that a family's machines have, and
-/// whether the whole filter is asked about.
+/// Tells which calls a stub of so many bytes answers, a line for each range of numbers, by the names that a family's machines have. It also
+/// tells whether the whole filter is asked about.
 pub fn stub_text(
     alloc: Global,
     family: Family,

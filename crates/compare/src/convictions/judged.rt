@@ -91,8 +91,8 @@ pub(crate) fn put_first(found: &Conviction, all: &mut Vec<Conviction>) -> Result
     Ok(())
 }
 
-/// The record that was found to convict a filter, and one of each further call that is found of which the filter gives another verdict than
-/// the bundle says, which is read for a native machine.
+/// The record that was found to convict a filter. Then one of each further call on which filter and bundle are found to differ. The bundle
+/// is read for a native machine.
 pub fn convictions_of(
     alloc: Global,
     native: Arch,

@@ -8,7 +8,7 @@ pub enum AddedError {
     NoNative,
     /// No machine has the number at this place.
     NoMachine(usize),
-    /// At this place stands no rule: no machine has its number, it has more than six conditions or two on one argument, or
+    /// At this place stands no rule. No machine has its number, or it has more than six conditions or two on one argument. Or
     /// one of them has no such argument or operator, or a bit outside of its mask.
     NoRule(usize),
     /// The native machine is not listed.
