@@ -3,14 +3,14 @@ use crate::cells::Cell;
 use crate::classes::{Grain, words_of};
 use crate::leaves::{Called, Leaf, apart, record_of, settled};
 use crate::paths::paths_of;
-use crate::said::{Manner, Said, said_of};
+use crate::said::{Manner, Said, only_word, said_of};
 use crate::text::is_given;
 use crate::unsaid::{Shown, Unsaid};
 use bpf_interp::verdict;
 use call_record::{Record, Word};
 use call_tables::is_narrow;
 use kernel_check::Accepted;
-use std::alloc::Global;
+use std::alloc::{AllocError, Global};
 
 /// What is said of a call, and the ways through the filter that it was found from.
 #[derive(Drop)]
@@ -58,10 +58,40 @@ fn refuse_words(program: &Accepted<'_>, leaves: &[Leaf]) -> Result<(), Unsaid> {
     Ok(())
 }
 
-// Two calls that differ in one word alone, with unlike verdicts.
-fn two_apart(program: &Accepted<'_>, leaves: &[Leaf], word: u8) -> Option<(Shown, Shown)> {
-    let (one, other) = apart(leaves, word)?;
-    Some((show(program, one), show(program, other)))
+// How many ways of a call to unlike verdicts are looked at.
+const MOST_WAYS: usize = 1 << 12;
+
+// Refuses a call that goes more ways to unlike verdicts.
+fn refuse_many(leaves: &[Leaf]) -> Result<(), Unsaid> {
+    if leaves.len() > MOST_WAYS && only_word(leaves).is_none() {
+        return Err(Unsaid::TooLarge);
+    }
+    Ok(())
+}
+
+// The leaves that have not all numbers of a word.
+fn telling(alloc: Global, leaves: &[Leaf], word: u8) -> Result<Vec<Leaf>, AllocError> {
+    let mut found = Vec::new(alloc);
+    for leaf in leaves {
+        if leaf.cell(word) != Cell::ALL {
+            found.push(*leaf)?;
+        }
+    }
+    Ok(found)
+}
+
+// Two calls that differ in one word alone, with unlike verdicts. No record goes two ways, so neither way has all numbers of the word.
+fn two_apart(
+    alloc: Global,
+    program: &Accepted<'_>,
+    leaves: &[Leaf],
+    word: u8,
+) -> Result<Option<(Shown, Shown)>, AllocError> {
+    let found = telling(alloc, leaves, word)?;
+    let Some((one, other)) = apart(&found, word) else {
+        return Ok(None);
+    };
+    Ok(Some((show(program, one), show(program, other))))
 }
 
 // The leaves with a 0 in the instruction pointer, if no verdict depends on it.
@@ -72,7 +102,7 @@ fn without_pointer(
 ) -> Result<Vec<Leaf>, Unsaid> {
     let mut left = leaves;
     for word in [2u8, 3] {
-        if let Some((one, other)) = two_apart(program, &left, word) {
+        if let Some((one, other)) = two_apart(alloc, program, &left, word)? {
             return Err(Unsaid::Pointer(one, other));
         }
         left = settled(alloc, &left, word, Cell::ALL)?;
@@ -89,7 +119,7 @@ fn without_upper(
     let mut left = leaves;
     for index in 0..6u8 {
         let (_low, high) = words_of(index);
-        if let Some((one, other)) = two_apart(program, &left, high) {
+        if let Some((one, other)) = two_apart(alloc, program, &left, high)? {
             return Err(Unsaid::HighHalf(one, other));
         }
         left = settled(alloc, &left, high, Cell::ZERO)?;
@@ -106,6 +136,7 @@ fn leaves_of(alloc: Global, program: &Accepted<'_>, call: Called) -> Result<Vec<
         return Err(Unsaid::Unfollowed(show(program, plain_record(call))));
     }
     refuse_words(program, &paths.leaves)?;
+    refuse_many(&paths.leaves)?;
     let leaves = without_pointer(alloc, program, paths.leaves)?;
     if is_narrow(call.token) {
         return without_upper(alloc, program, leaves);

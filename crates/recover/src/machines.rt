@@ -200,11 +200,61 @@ fn word_of(
     Err(Unsaid::Conditions(shown))
 }
 
+// Whether a number of a machine has no name, and its plain call another verdict than the default.
+fn is_unlike(program: &Accepted<'_>, arch: Arch, number: u32, default: Word) -> bool {
+    let call = Called {
+        token: arch.token(),
+        number,
+    };
+    let is_own = arch
+        .own_numbers()
+        .iter()
+        .any(|own| own.first <= number && number <= own.last);
+    is_own && arch.name(number).is_none() && show(program, plain_record(call)).given != default
+}
+
+// More numbers than are left aside one by one.
+const TOO_MANY: u32 = 66;
+
+// Whether so many numbers from one on have no name and another verdict than the default.
+fn are_too_many(program: &Accepted<'_>, arch: Arch, from: u32, default: Word) -> bool {
+    for step in 0..TOO_MANY {
+        let Some(number) = from.checked_add(step) else {
+            return false;
+        };
+        if !is_unlike(program, arch, number, default) {
+            return false;
+        }
+    }
+    true
+}
+
+// Refuses a filter that gives too many numbers without a name another verdict than the default.
+fn refuse_unlike(
+    program: &Accepted<'_>,
+    machines: &[Listed],
+    default: Shown,
+) -> Result<(), Unsaid> {
+    for machine in machines {
+        for number in &machine.unnamed {
+            if are_too_many(program, machine.arch, *number, default.given) {
+                let call = Called {
+                    token: machine.arch.token(),
+                    number: *number,
+                };
+                let shown = show(program, plain_record(call));
+                return Err(Unsaid::Unnamed(default, shown));
+            }
+        }
+    }
+    Ok(())
+}
+
 // A number behind all that have a name, on each machine but x32.
 const BEHIND_NAMES: u32 = LEAST_X32_NUMBER - 1;
 
 /// The verdict of all calls without a name, shown by one of them. Where they are passed over, it is one of those behind all names that
-/// shows it: they are too many to be left aside.
+/// shows it: they are too many to be left aside. So are others of one verdict in a row, unless a stub may answer them.
 pub(crate) fn default_of(
     alloc: Global,
     program: &Accepted<'_>,
@@ -214,6 +264,9 @@ pub(crate) fn default_of(
 ) -> Result<Option<Shown>, Unsaid> {
     if passed.unnamed {
         let shown = word_of(alloc, program, native, BEHIND_NAMES)?;
+        if !passed.has_stub {
+            refuse_unlike(program, machines, shown)?;
+        }
         return Ok(Some(shown));
     }
     let mut found: Option<Shown> = None;

@@ -30,10 +30,11 @@ fn be_right(judged: &Result<Evidence, Unready>) -> Result<(), Unsaid>
 }
 
 // What is drafted passes over what may be left aside.
-fn passed_of(leave: Leave) -> Passed {
+fn passed_of(leave: Leave, behind: &Behind<'_>) -> Passed {
     Passed {
         unnamed: leave.unnamed,
         x32: leave.x32,
+        has_stub: !behind.answered.is_empty(),
     }
 }
 
@@ -49,7 +50,7 @@ pub fn recover_but(
     ensures { IfOk result (λ found. IsRecoveredBut native (string_bytes found.bundle) filter.now leave
         (stub_calls found.but.judged.whole behind.now.answered.items) found.but.aside.items) }
 {
-    let bundle = draft_of(alloc, native, behind.rest, passed_of(leave))?;
+    let bundle = draft_of(alloc, native, behind.rest, passed_of(leave, behind))?;
     let but = judge_but(alloc, native, bundle.as_bytes(), filter, behind, leave)?;
     be_right(&but.judged.evidence)?;
     Ok(Found { bundle, but })

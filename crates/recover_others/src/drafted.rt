@@ -28,6 +28,7 @@ pub(crate) fn drafted(alloc: Global, native: Arch, filter: &[u8]) -> Result<Stri
     let passed = Passed {
         unnamed: false,
         x32: false,
+        has_stub: false,
     };
     let draft = draft_of(alloc, native, &made, passed)?;
     let text = with_member(alloc, &draft)?;
