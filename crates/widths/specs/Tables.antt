@@ -1,12 +1,12 @@
 -- The tables of each machine (Linux 6.18, SYSCALL_DEFINE and COMPAT_SYSCALL_DEFINE). x32 enters the calls of x86-64, but for
--- those with entries of its own; AArch64, riscv64 and ppc64le take the arguments of clone in another order.
+-- those with entries of its own. AArch64, riscv64 and ppc64le take the arguments of clone in another order, and so does s390x.
 use Rattle.std.specs.Prelude.{List, [], ◌∷◌, map}
 use Rattle.call_tables.specs.declared.arch.Arch.{Arch}
 use Rattle.call_tables.specs.declared.arch.Arch.TheVariants.{X86_64, Aarch64, LinuxX86_64, LinuxX86, LinuxX32}
 use Rattle.call_tables.specs.declared.arch.Arch.TheVariants.{LinuxAarch64, LinuxArm, LinuxRiscv64, LinuxPpc64le, LinuxLoongarch64}
 use Rattle.call_tables.specs.declared.arch.Arch.TheVariants.{LinuxS390x, LinuxS390}
 use Rattle.widths.specs.declared.linux_arguments.TheConstants.{FIRST_CALLS, SECOND_CALLS, THIRD_CALLS, FOURTH_CALLS}
-use Rattle.widths.specs.declared.linux_arguments.TheConstants.{X32_CALLS, X86_CALLS, AARCH64_CALLS}
+use Rattle.widths.specs.declared.linux_arguments.TheConstants.{X32_CALLS, X86_CALLS, AARCH64_CALLS, S390X_CALLS}
 use Rattle.widths.specs.Rows.{Rows}
 
 unfoldable pub first_rows : Rows
@@ -30,6 +30,9 @@ x86_rows = map (λ e. (e.0.now, e.1)) X86_CALLS.now
 unfoldable pub aarch64_rows : Rows
 aarch64_rows = map (λ e. (e.0.now, e.1)) AARCH64_CALLS.now
 
+unfoldable pub s390x_rows : Rows
+s390x_rows = map (λ e. (e.0.now, e.1)) S390X_CALLS.now
+
 abbrev pub from_third : List Rows
 from_third = third_rows ∷ fourth_rows ∷ []
 
@@ -45,6 +48,9 @@ on_x32 = x32_rows ∷ shared
 abbrev pub on_aarch64 : List Rows
 on_aarch64 = aarch64_rows ∷ shared
 
+abbrev pub on_s390x : List Rows
+on_s390x = s390x_rows ∷ shared
+
 -- the tables in which a machine's calls are looked up. ARM and s390 need none, and x86 that of one call: all their arguments have 32 bits.
 abbrev pub tables_of : Arch → List Rows
 tables_of X86_64 = shared
@@ -57,5 +63,5 @@ tables_of LinuxArm = []
 tables_of LinuxRiscv64 = on_aarch64
 tables_of LinuxPpc64le = on_aarch64
 tables_of LinuxLoongarch64 = shared
-tables_of LinuxS390x = shared
+tables_of LinuxS390x = on_s390x
 tables_of LinuxS390 = []

@@ -1,6 +1,6 @@
 //! How kernels read the arguments of calls, as Linux 6.18 declares them (`SYSCALL_DEFINE` and, of x32's own entries,
 //! `COMPAT_SYSCALL_DEFINE`): an `int` and the like are 32 bits, `umode_t` is 16. It is an upper bound, since a call may take a
-//! `long` and look at less.
+//! `long` and look at less. That is known of `clone`, which takes the lower half of its flags (kernel/fork.c).
 use crate::Reading;
 
 const N: Reading = Reading::NotTaken;
@@ -38,7 +38,7 @@ pub(crate) const FIRST_CALLS: &[(&str, [Reading; 6])] = &[
     ("clock_gettime", [I, P, N, N, N, N]),
     ("clock_nanosleep", [I, I, P, P, N, N]),
     ("clock_settime", [I, P, N, N, N, N]),
-    ("clone", [W, W, P, P, W, N]),
+    ("clone", [I, W, P, P, W, N]),
     ("clone3", [P, W, N, N, N, N]),
     ("close", [I, N, N, N, N, N]),
     ("close_range", [I, I, I, N, N, N]),
@@ -151,6 +151,7 @@ pub(crate) const SECOND_CALLS: &[(&str, [Reading; 6])] = &[
     ("iopl", [I, N, N, N, N, N]),
     ("ioprio_get", [I, I, N, N, N, N]),
     ("ioprio_set", [I, I, I, N, N, N]),
+    ("ipc", [I, I, W, W, P, W]),
     ("kcmp", [I, I, I, W, W, N]),
     ("kexec_file_load", [I, I, W, P, W, N]),
     ("kexec_load", [W, W, P, W, N, N]),
@@ -343,6 +344,7 @@ pub(crate) const FOURTH_CALLS: &[(&str, [Reading; 6])] = &[
     ("signalfd", [I, P, W, N, N, N]),
     ("signalfd4", [I, P, W, I, N, N]),
     ("socket", [I, I, I, N, N, N]),
+    ("socketcall", [I, P, N, N, N, N]),
     ("socketpair", [I, I, I, P, N, N]),
     ("splice", [I, P, I, P, W, I]),
     ("stat", [P, P, N, N, N, N]),
@@ -417,4 +419,10 @@ pub(crate) const X32_CALLS: &[(&str, [Reading; 6])] = &[
 pub(crate) const X86_CALLS: &[(&str, [Reading; 6])] = &[("ipc", [M, I, I, I, P, I])];
 
 /// Calls that are read otherwise on AArch64: the order of arguments is another.
-pub(crate) const AARCH64_CALLS: &[(&str, [Reading; 6])] = &[("clone", [W, W, P, W, P, N])];
+pub(crate) const AARCH64_CALLS: &[(&str, [Reading; 6])] = &[("clone", [I, W, P, W, P, N])];
+
+/// Calls that are read otherwise on s390x: the order of arguments is another, and `ipc` takes five.
+pub(crate) const S390X_CALLS: &[(&str, [Reading; 6])] = &[
+    ("clone", [W, I, P, P, W, N]),
+    ("ipc", [I, I, W, W, P, N]),
+];

@@ -5,7 +5,8 @@ ghost use Rattle.widths.specs.Tables as tables;
 
 use crate::arguments::reading::Reading;
 use crate::linux_arguments::{
-    AARCH64_CALLS, FIRST_CALLS, FOURTH_CALLS, SECOND_CALLS, THIRD_CALLS, X32_CALLS, X86_CALLS,
+    AARCH64_CALLS, FIRST_CALLS, FOURTH_CALLS, S390X_CALLS, SECOND_CALLS, THIRD_CALLS, X32_CALLS,
+    X86_CALLS,
 };
 use call_tables::Arch;
 
@@ -56,6 +57,13 @@ fn of_aarch64() -> &'static [(&'static str, [Reading; 6])]
     ensures { rows result.now ≡ tables.aarch64_rows }
 {
     AARCH64_CALLS
+}
+
+#[tactic(auto, unfolding(crate::specs::Tables::s390x_rows))]
+fn of_s390x() -> &'static [(&'static str, [Reading; 6])]
+    ensures { rows result.now ≡ tables.s390x_rows }
+{
+    S390X_CALLS
 }
 
 // What stands beside the first such name.
@@ -121,6 +129,16 @@ fn on_aarch64(name: &str) -> Option<[Reading; 6]>
     shared(name)
 }
 
+fn on_s390x(name: &str) -> Option<[Reading; 6]>
+    ensures { result ≡ readings_among tables.on_s390x name.now }
+{
+    let found = find(of_s390x(), name);
+    if found.is_some() {
+        return found;
+    }
+    shared(name)
+}
+
 /// How a machine's call of the name reads its arguments, if that is known.
 pub(crate) fn of_name(arch: Arch, name: &str) -> Option<[Reading; 6]>
     ensures { result ≡ readings_among (tables.tables_of arch) name.now }
@@ -135,7 +153,7 @@ pub(crate) fn of_name(arch: Arch, name: &str) -> Option<[Reading; 6]>
         Arch::LinuxRiscv64 => on_aarch64(name),
         Arch::LinuxPpc64le => on_aarch64(name),
         Arch::LinuxX86 => find(of_x86(), name),
-        Arch::LinuxS390x => shared(name),
+        Arch::LinuxS390x => on_s390x(name),
         Arch::LinuxArm | Arch::LinuxS390 => None,
     }
 }
