@@ -229,12 +229,16 @@ fn are_too_many(program: &Accepted<'_>, arch: Arch, from: u32, default: Word) ->
     true
 }
 
-// Refuses a filter that gives too many numbers without a name another verdict than the default.
+// Refuses a filter that gives too many numbers without a name another verdict than the default, unless a stub may answer these.
 fn refuse_unlike(
     program: &Accepted<'_>,
     machines: &[Listed],
-    default: Shown,
+    passed: Passed,
+    default: &Shown,
 ) -> Result<(), Unsaid> {
+    if passed.has_stub {
+        return Ok(());
+    }
     for machine in machines {
         for number in &machine.unnamed {
             if are_too_many(program, machine.arch, *number, default.given) {
@@ -243,7 +247,7 @@ fn refuse_unlike(
                     number: *number,
                 };
                 let shown = show(program, plain_record(call));
-                return Err(Unsaid::Unnamed(default, shown));
+                return Err(Unsaid::Unnamed(*default, shown));
             }
         }
     }
@@ -264,9 +268,7 @@ pub(crate) fn default_of(
 ) -> Result<Option<Shown>, Unsaid> {
     if passed.unnamed {
         let shown = word_of(alloc, program, native, BEHIND_NAMES)?;
-        if !passed.has_stub {
-            refuse_unlike(program, machines, shown)?;
-        }
+        refuse_unlike(program, machines, passed, &shown)?;
         return Ok(Some(shown));
     }
     let mut found: Option<Shown> = None;
