@@ -102,6 +102,25 @@ bool is_narrow(int machine);
 /* Whether a machine has the call of a rule, and its number there. */
 bool rule_has(const struct rule *rule, int machine, uint32_t *number);
 
+uint64_t greatest_of(int machine); /* the greatest number that an argument is */
+/* Whether a number up to the greatest meets both conditions. */
+bool have_common(const struct ccell_condition *a, const struct ccell_condition *b, uint64_t greatest);
+/* Whether one call of a machine matches both rules, which are for the same call. */
+bool both_match(const struct rule *a, const struct rule *b, int machine);
+/* Refuses the one rule for the other. */
+int contradicts(const struct rule *rule, const struct rule *other, int machine);
+
+/* Of two rules that one call matches, and whose conditions differ: the one that counts for it in libseccomp. */
+enum winner { NEITHER, THE_EARLIER, THE_LATER };
+enum winner winner_of(const struct rule *earlier, const struct rule *later);
+/* What is left of one of the filter's rules on a machine, without the calls for which another counts: rules of its call and action. 0, -ENOMEM, or
+ * -EEXIST where that can't be said beside one of them. */
+struct parts { struct rule *rules; size_t count, room; const struct rule *beside; };
+int list_parts(const struct filter *filter, const struct rule *rule, int machine, struct parts *parts);
+void free_parts(struct parts *parts);
+/* Whether the last rule, and those of which it leaves less, can be given to ccell: 0, or an error. */
+int judge_last(const struct filter *filter);
+
 /* Whether a rule can stand beside those that were added before it: 0, or an error. */
 int judge_rule(const struct filter *filter, const struct rule *rule);
 /* Whether libseccomp, on these machines, takes what it makes of the rule for socketcall and ipc: 0, or an error. */
@@ -112,7 +131,7 @@ int way_of(const struct rule *rule, int machine, uint64_t *first);
 struct rule rule_of_way(const struct filter *filter, const struct rule *rule, int machine, int way, uint64_t first);
 
 /* Whether what contradicts is refused. Otherwise rules settle each other as in libseccomp: of a call's rules on a machine the first one
- * without conditions counts alone. */
+ * without conditions counts alone, and of two with conditions `winner_of`. */
 extern bool is_strict;
 /* Whether reasons are written to standard error. */
 extern bool writes_messages;

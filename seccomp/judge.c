@@ -22,10 +22,10 @@ static uint64_t mask_of(const struct ccell_condition *condition) {
     return condition->operator_ == CCELL_MASKED_EQ ? condition->value : 0;
 }
 
-/* Whether a number up to the greatest meets both conditions. One number alone meets an equation. Any other condition that holds of a
+/* One number alone meets an equation. Any other condition that holds of a
  * number holds of all below it with the same bits under the mask, or of all above it. So where some number meets both, so does the least
  * or the greatest with the bits of both, or a number that they compare with, or the one after it. */
-static bool have_common(const struct ccell_condition *a, const struct ccell_condition *b, uint64_t greatest) {
+bool have_common(const struct ccell_condition *a, const struct ccell_condition *b, uint64_t greatest) {
     uint64_t least = a->datum | b->datum, free = greatest & ~(mask_of(a) | mask_of(b));
     uint64_t near[] = {least, least | free, a->value, a->value + 1, b->value, b->value + 1};
     for (unsigned i = 0; i < sizeof near / sizeof *near; i++)
@@ -58,25 +58,31 @@ static bool has_call(int machine, const struct rule *rule) {
 
 bool is_narrow(int machine) { return machine == X86 || machine == ARM; }
 
-/* The first machine on which one call matches both rules, which are for the same call; or -1. */
+uint64_t greatest_of(int machine) { return is_narrow(machine) ? UINT32_MAX : UINT64_MAX; }
+
+bool both_match(const struct rule *a, const struct rule *b, int machine) {
+    uint64_t greatest = greatest_of(machine);
+    return a->machines & b->machines & 1u << machine && has_call(machine, a) && can_be_met(a, b, greatest) && can_be_met(b, a, greatest);
+}
+
+/* The first machine on which one call matches both rules, or -1. */
 static int machine_of_both(const struct rule *a, const struct rule *b) {
-    for (int machine = 0; machine < OURS; machine++) {
-        uint64_t greatest = is_narrow(machine) ? UINT32_MAX : UINT64_MAX;
-        if (a->machines & b->machines & 1u << machine && has_call(machine, a) && can_be_met(a, b, greatest) && can_be_met(b, a, greatest))
-            return machine;
-    }
+    for (int machine = 0; machine < OURS; machine++)
+        if (both_match(a, b, machine)) return machine;
     return -1;
 }
 
-static int contradicts(const struct rule *rule, const struct rule *other, int machine) {
+int contradicts(const struct rule *rule, const struct rule *other, int machine) {
     return refuse(-EEXIST, "%s contradicts %s on %s", rule_text(rule).is, rule_text(other).is, MACHINE[machine].name);
 }
 
-/* Whether a rule before this one has another action for a call that matches both. It is told by the rule that was asked for. */
+/* Whether a rule before this one has another action for a call that matches both, and which of the two counts is not known. It is told
+ * by the rule that was asked for. */
 static int judge_overlaps(const struct filter *filter, const struct rule *rule, const struct rule *asked) {
     for (size_t at = 0; (at = rule_before(filter, rule->call, rule->number, at));) {
         const struct rule *old = &filter->rules[at - 1];
-        int machine = old->action == rule->action ? -1 : machine_of_both(old, rule);
+        if (old->action == rule->action || (!is_strict && rule == asked && winner_of(old, rule) != NEITHER)) continue;
+        int machine = machine_of_both(old, rule);
         if (machine >= 0) return contradicts(asked, old, machine);
     }
     return 0;
@@ -155,7 +161,7 @@ static int judge_ways(const struct filter *filter, const struct rule *rule) {
 
 /* What is said of further arguments: the conditions from the second argument on, without those that hold of each number. */
 static unsigned list_further(const struct rule *rule, int machine, const struct ccell_condition *listed[ARGUMENTS]) {
-    uint64_t greatest = is_narrow(machine) ? UINT32_MAX : UINT64_MAX;
+    uint64_t greatest = greatest_of(machine);
     unsigned count = 0;
     for (unsigned i = 0; i < rule->count; i++) {
         const struct ccell_condition *each = &rule->conditions[i];

@@ -49,6 +49,17 @@ static int write_way(const struct filter *filter, struct list *list, const struc
     return write_for(list, &other, machine, of);
 }
 
+/* Writes what is left of a rule on a machine beside the others. */
+static int write_parts(const struct filter *filter, struct list *list, const struct rule *rule, int machine, size_t of) {
+    struct parts parts = {NULL, 0, 0, NULL};
+    if (!rule->count || is_strict) return write_for(list, rule, machine, of);
+    int error = list_parts(filter, rule, machine, &parts);
+    if (error == -EEXIST) error = contradicts(rule, parts.beside, machine); /* it was found when they were added */
+    for (size_t i = 0; !error && i < parts.count; i++) error = write_for(list, &parts.rules[i], machine, of);
+    free_parts(&parts);
+    return error;
+}
+
 static int write_rule(const struct filter *filter, size_t place, struct list *list) {
     const struct rule *rule = &filter->rules[place];
     bool is_off = rule->call < 0 && rule->number == SKIPPED && !filter->now.attributes[RULES_FOR_SKIPPED]; /* as in libseccomp */
@@ -57,7 +68,7 @@ static int write_rule(const struct filter *filter, size_t place, struct list *li
     for (int machine = 0; !error && machine < OURS; machine++) {
         if (!(machines >> machine & 1)) continue;
         error = write_way(filter, list, rule, machine, place);
-        if (!error) error = write_for(list, rule, machine, place);
+        if (!error) error = write_parts(filter, list, rule, machine, place);
     }
     return error;
 }

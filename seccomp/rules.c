@@ -131,7 +131,9 @@ static int append(struct filter *filter, struct rule *rule) {
     filter->rules[filter->now.count] = *rule;
     enter(filter, filter->now.count++);
     filter->length = 0;
-    return 0;
+    int error = judge_last(filter);
+    if (error) drop_rules(filter, filter->now.count - 1);
+    return error;
 }
 
 static bool one_has(uint32_t machines, int call) {
