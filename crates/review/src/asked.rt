@@ -76,6 +76,20 @@ fn add_call(
     Ok(())
 }
 
+/// A call of machines.
+pub(crate) fn asked_by(
+    alloc: Global,
+    machines: &[Arch],
+    name: &str,
+    part: Part,
+) -> Result<Vec<Asked>, AllocError>
+    ensures { IfOk result (λ list. list.items ≡ spec.asked_by machines.now part.entry name.now) }
+{
+    let mut list = Vec::new(alloc);
+    add_call(&mut list, machines, name, part)?;
+    Ok(list)
+}
+
 // Adds the calls of a row.
 fn add_row(list: &mut Vec<Asked>, machines: &[Arch], row: &Row) -> Result<(), AllocError>
     ensures { IfOk result (λ _. list.new.items ≡ list.old.items ++ spec.asked_in machines.now row.now) }

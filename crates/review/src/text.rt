@@ -178,7 +178,8 @@ fn is_open(judged: &Judged) -> bool
     }
 }
 
-fn all_refused(list: &[Judged]) -> bool
+/// Whether all is refused.
+pub(crate) fn all_refused(list: &[Judged]) -> bool
     ensures { result ≡ list_all (λ j. spec.is_refused j.answer) list.now }
 {
     list.iter().all(|judged| is_refused(judged))
@@ -190,7 +191,8 @@ fn all_open(list: &[Judged]) -> bool
     list.iter().all(|judged| is_open(judged))
 }
 
-fn some_open(list: &[Judged]) -> bool
+/// Whether something is let through.
+pub(crate) fn some_open(list: &[Judged]) -> bool
     ensures { result ≡ list_any (λ j. spec.is_open j.answer) list.now }
 {
     list.iter().any(|judged| is_open(judged))

@@ -1,14 +1,20 @@
 //! What `ccell review` tells.
-ghost use Rattle.std.specs.Prelude.{◌≡◌, ℕ, List, IfErr, IfOk, IfSome, string_bytes};
+ghost use Rattle.std.specs.Prelude.{◌≡◌, ◌++◌, ℕ, List, IfErr, IfOk, IfSome, string_bytes};
 ghost use Rattle.profile_json.specs.Breaks.{Breaks};
 ghost use Rattle.profile_json.specs.Fault.{fault_of};
 ghost use Rattle.review.specs.Reviewed as spec;
 ghost use Rattle.review.specs.Groups.{AreAllGroups, GroupEntry};
+ghost use Rattle.review.specs.Systemd as systemd;
+ghost use Rattle.review.specs.SystemdTold.{AddsSystemd, TellsSystemd};
 ghost use Rattle.review.specs.Told.{AddsGroup, TellsGroups};
 
 use crate::asked::asked_of;
 use crate::groups::Group;
 use crate::judged::judge;
+use crate::member::judge_members;
+use crate::members::members_of;
+use crate::systemd::group_names;
+use crate::systemd_text::put_systemd;
 use crate::table::groups;
 use crate::text::put_group;
 use call_tables::Arch;
@@ -46,6 +52,43 @@ fn text_of(alloc: Global, profile: &Profile, all: &EntryRules) -> Result<String,
     Ok(text)
 }
 
+// Adds what is told of a group of systemd.
+fn add_systemd(
+    alloc: Global,
+    text: &mut String,
+    profile: &Profile,
+    group: &str,
+) -> Result<(), AllocError>
+    ensures { IfOk result (λ _. AddsSystemd profile.now group.now (string_bytes text.old) (string_bytes text.new)) }
+{
+    let names = members_of(alloc, profile.machines(), group)?;
+    let list = judge_members(alloc, profile, &names)?;
+    put_systemd(alloc, text, group, &list)?;
+    Ok(())
+}
+
+// What is told of all groups of systemd.
+fn systemd_of(alloc: Global, profile: &Profile) -> Result<String, AllocError>
+    ensures { IfOk result (λ text. TellsSystemd profile.now systemd.group_names (string_bytes text)) }
+{
+    let mut text = String::new(alloc);
+    let groups = group_names();
+    for group in groups {
+        add_systemd(alloc, &mut text, profile, group)?;
+    }
+    Ok(text)
+}
+
+// What is told of a profile.
+fn told_of(alloc: Global, profile: &Profile, all: &EntryRules) -> Result<String, AllocError>
+    ensures { IfOk result (λ text. spec.TellsProfile profile.now all.now.rules.items all.now.ends.items (string_bytes text)) }
+{
+    let mut text = text_of(alloc, profile, all)?;
+    let systemd = systemd_of(alloc, profile)?;
+    text.push_str(&systemd)?;
+    Ok(text)
+}
+
 // What is told of a bundle.
 fn text_for(alloc: Global, native: Arch, bundle: &[u8]) -> Result<String, ProfileError>
     ensures tells { IfOk result (λ text. spec.TellsReview native bundle.now (string_bytes text)) }
@@ -54,12 +97,12 @@ fn text_for(alloc: Global, native: Arch, bundle: &[u8]) -> Result<String, Profil
 {
     let read = read_bundle(alloc, bundle, native)?;
     let all = rules_by_entry(alloc, bundle, native)?;
-    let text = text_of(alloc, &read.profile, &all)?;
+    let text = told_of(alloc, &read.profile, &all)?;
     Ok(text)
 }
 
 /// Tells what a bundle, which is read for a native machine, leaves open of the calls by which a kernel is attacked most: group by
-/// group, each call that it lets through, and by which entry.
+/// group, each call that it lets through, and by which entry. systemd's groups follow.
 pub fn review(alloc: Global, native: Arch, bundle: &[u8]) -> Result<Told, AllocError>
     ensures { IfOk result (spec.IsReviewed native bundle.now) }
 {

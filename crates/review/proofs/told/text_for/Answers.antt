@@ -8,7 +8,5 @@ returns-clause-tells c =
       rules = c.in_ok-all.all.rules.items;
       ends = c.in_ok-all.all.ends.items;
       read = record { t = means.0; is_text = means.1; means = means.2; are = c.in_ok-all.ensures.ok };
-      groups = c.in_ok-text.ensures.0;
-      are_all = c.in_ok-text.ensures.1;
-      tells = c.in_ok-text.ensures.2;
+      tells = c.in_ok-text.ensures;
     }
