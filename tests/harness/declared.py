@@ -34,7 +34,7 @@ def of_page():
             if line.startswith("#"):
                 continue
             words = line.split()
-            count = 2 if words[0] in ("x32", "aarch64", "x86") else 1
+            count = 2 if words[0] in ("x32", "aarch64", "x86", "s390x") else 1
             lines[" ".join(words[:count])] = " ".join(words[count:])
     return lines
 
@@ -62,6 +62,11 @@ def of_kernel(folder):
     return lines
 
 
+def is_declared(name, told, line):
+    """Whether a line of the page is what the kernel declares. Of clone's flags, a long, Linux takes the lower half (kernel/fork.c)."""
+    return told == line or (name == "clone" and told.replace("32", "64") == line)
+
+
 def unlike(page, kernel, machine):
     """How many lines of a kernel are those of the page, the others with both lines, and which calls the page has not. A line of the page
     for this machine, or for one that is like it, comes before the one for all."""
@@ -70,7 +75,7 @@ def unlike(page, kernel, machine):
         told = page.get(f"{ALIKE.get(machine, machine)} {name}", page.get(name))
         if told is None:
             missing.append(name)
-        elif told == line:
+        elif is_declared(name, told, line):
             alike += 1
         else:
             others[name] = told, line
