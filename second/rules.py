@@ -33,7 +33,8 @@ def condition(arg):
 
 
 def text_of(native, bundle):
-    section = bundle['linux']['seccomp']
+    by_itself = native.startswith('linux') and 'linux' not in bundle   # a section, as engines take it
+    section = bundle if by_itself else bundle['linux']['seccomp']
     family, calls = tables(native)
     listed = [machine.removeprefix('SCMP_ARCH_').lower().replace('_', '-') for machine in section.get('architectures', [])]
     machines = [m for m in ORDER if m in family and (m.removeprefix('linux-') in listed if listed else m == native)]
