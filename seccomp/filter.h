@@ -48,6 +48,7 @@ struct rule {
     unsigned count;
     struct ccell_condition conditions[ARGUMENTS]; /* in the order of arguments */
     uint32_t left_out; /* machines on which libseccomp leaves it out of socketcall or ipc: `judge_in_ways` */
+    uint32_t dropped; /* machines on which libseccomp may drop it: `machines_that_drop` */
     size_t before; /* the place of the last rule before it that has its slot, counted from 1 */
 };
 
@@ -118,6 +119,8 @@ enum winner winner_of(const struct rule *earlier, const struct rule *later);
 struct parts { struct rule *rules; size_t count, room; const struct rule *beside; };
 int list_parts(const struct filter *filter, const struct rule *rule, int machine, const struct rule *last, struct parts *parts);
 void free_parts(struct parts *parts);
+/* The machines on which libseccomp drops a rule that is added, though none before it holds for all that it is for. */
+uint32_t machines_that_drop(const struct filter *filter, const struct rule *rule);
 /* Whether the last rule, and those of which it leaves less, can be given to ccell: 0, or an error. */
 int judge_last(const struct filter *filter);
 
