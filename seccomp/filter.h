@@ -48,6 +48,7 @@ struct rule {
     unsigned count;
     struct ccell_condition conditions[ARGUMENTS]; /* in the order of arguments */
     uint32_t left_out; /* machines on which libseccomp leaves it out of socketcall or ipc: `judge_in_ways` */
+    uint32_t dropped; /* machines on which libseccomp may drop it: `machines_that_drop` */
     size_t before; /* the place of the last rule before it that has its slot, counted from 1 */
 };
 
@@ -114,10 +115,12 @@ int contradicts(const struct rule *rule, const struct rule *other, int machine);
 enum winner { NEITHER, THE_EARLIER, THE_LATER };
 enum winner winner_of(const struct rule *earlier, const struct rule *later);
 /* What is left of one of the filter's rules on a machine, without the calls for which another counts: rules of its call and action. 0, -ENOMEM, or
- * -EEXIST where that can't be said beside one of them. */
+ * -EEXIST where that can't be said beside one of them. With the last rule it reports only what is new by that. */
 struct parts { struct rule *rules; size_t count, room; const struct rule *beside; };
-int list_parts(const struct filter *filter, const struct rule *rule, int machine, struct parts *parts);
+int list_parts(const struct filter *filter, const struct rule *rule, int machine, const struct rule *last, struct parts *parts);
 void free_parts(struct parts *parts);
+/* The machines on which libseccomp drops a rule that is added, though none before it holds for all that it is for. */
+uint32_t machines_that_drop(const struct filter *filter, const struct rule *rule);
 /* Whether the last rule, and those of which it leaves less, can be given to ccell: 0, or an error. */
 int judge_last(const struct filter *filter);
 

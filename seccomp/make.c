@@ -53,7 +53,7 @@ static int write_way(const struct filter *filter, struct list *list, const struc
 static int write_parts(const struct filter *filter, struct list *list, const struct rule *rule, int machine, size_t of) {
     struct parts parts = {NULL, 0, 0, NULL};
     if (!rule->count || is_strict) return write_for(list, rule, machine, of);
-    int error = list_parts(filter, rule, machine, &parts);
+    int error = list_parts(filter, rule, machine, NULL, &parts);
     if (error == -EEXIST) error = contradicts(rule, parts.beside, machine); /* it was found when they were added */
     for (size_t i = 0; !error && i < parts.count; i++) error = write_for(list, &parts.rules[i], machine, of);
     free_parts(&parts);

@@ -128,6 +128,7 @@ static int append(struct filter *filter, struct rule *rule) {
     int is_new = judge(filter, rule);
     if (is_new <= 0) return is_new;
     if (filter->now.count == filter->room && grow(filter)) return -ENOMEM;
+    rule->dropped = machines_that_drop(filter, rule);
     filter->rules[filter->now.count] = *rule;
     enter(filter, filter->now.count++);
     filter->length = 0;
