@@ -19,7 +19,8 @@ ALIKE = {"riscv64": "aarch64", "ppc64le": "aarch64"}
 
 # Types of 32 bits and of 16. All others that are no pointers are whole.
 NARROW = {
-    "int": "32", "unsigned int": "32", "unsigned": "32", "u32": "32", "__u32": "32", "__s32": "32", "pid_t": "32", "uid_t": "32", "gid_t": "32",
+    "int": "32", "unsigned int": "32", "unsigned": "32", "uint": "32", "u32": "32", "__u32": "32", "__s32": "32", "pid_t": "32",
+    "uid_t": "32", "gid_t": "32",
     "qid_t": "32", "key_t": "32", "key_serial_t": "32", "mqd_t": "32", "clockid_t": "32", "const clockid_t": "32", "timer_t": "32",
     "rwf_t": "32", "umode_t": "16", "enum landlock_rule_type": "32", "const enum landlock_rule_type": "32", "const int": "32",
     "const __u32": "32", "id_t": "32", "old_uid_t": "16", "old_gid_t": "16",
