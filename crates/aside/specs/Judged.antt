@@ -22,7 +22,8 @@ use Rattle.aside.specs.declared.leave.Leave.{Leave}
 use Rattle.aside.specs.Aside.{IsAside, IsRightBut}
 use Rattle.aside.specs.Named.{MayBeAside}
 
--- Calls are left aside with reason: they may be, and on a record of one of them the filter gives another verdict than the bundle says.
+-- Calls are left aside with reason. They may be left aside, and on a record of one of them the filter gives another verdict than the
+-- bundle says.
 pub record IsLeftOut (native : Arch) (bundle filter : List ℕ) (leave : Leave) (calls : Calls) : Type 0 where
   pub may : MayBeAside (family_of native) leave calls
   pub found : Conviction

@@ -72,7 +72,7 @@ pub record WritesAllBut {S : Type 0} (held : S → Option (List ℕ)) (failures 
   pub written : WritesLines held failures old new all result
 
 -- What `ccell certify` writes with `calls` or `without-x32` behind the filter. Calls are left aside with reason. If none are, it writes
--- what it writes without these words, and else what is so of the others; or with `all` all records that are found.
+-- what it writes without these words, and else what is so of the others. Or with `all` it writes all records that are found.
 pub record CertifiesBy {S : Type 0} (held : S → Option (List ℕ)) (failures : S → Failures) (old new : S) (native : Arch)
     (bundle filter : List ℕ) (leave : Leave) (result : Result Bool WriteFault) : Type 0 where
   pub rest : List ℕ

@@ -98,7 +98,8 @@ fn loads_first(filter: &[u8]) -> bool
     begins_with_load(&program)
 }
 
-// A filter to which it does not matter what A holds: the same, if it begins with a load, or with an instruction in front that sets A to 0.
+// A filter to which it does not matter what A holds. It is the same if it begins with a load, or has an instruction in front that sets A
+// to 0.
 fn freed(alloc: Global, filter: &[u8]) -> Result<Vec<u8>, AllocError>
     ensures { IfOk result (λ bytes. IsFreed (insns_of bytes.items) (insns_of filter.now)) }
 {

@@ -14,8 +14,8 @@ pub struct Made {
     pub cert: Vec<u8>,
 }
 
-/// The profile, the filter and the certificate on which questions are, the records on which the first two are compared, and
-/// what was kept for containers.
+/// The profile, the filter and the certificate on which questions are, and the records on which the first two are compared.
+/// Also what was kept for containers.
 #[derive(Drop)]
 pub struct Desk {
     pub out: Answers,

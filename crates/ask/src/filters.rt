@@ -1,5 +1,5 @@
-//! Questions on filters: `bytes DIGITS` is the filter from then on, and `run RECORD` tells its verdict, how many instructions ran,
-//! and whether it allows the call by its number and machine alone, or what the kernel's check says.
+//! Questions on filters: `bytes DIGITS` is the filter from then on. `run RECORD` tells its verdict, how many instructions ran, and whether
+//! it allows the call by its number and machine alone. Or it tells what the kernel's check says.
 
 use crate::answers::Answers;
 use crate::desk::Desk;

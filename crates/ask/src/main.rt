@@ -1,10 +1,11 @@
-//! Answers questions to the library, which tests/rows puts: a question a line on standard input, and under it its answers, a
-//! line each, and then a line `.`. Drawing, counting, comparing and all texts that people read or write are the script's.
+//! Answers questions to the library, which tests/rows puts. There is a question a line on standard input, and under it its
+//! answers, a line each, and then a line `.`. Drawing, counting, comparing and all texts that people read or write are the
+//! script's.
 //!
-//! A question begins with what it is on (`profile`, `filter`, `cert`, `verdict`, `kernel` or `runtime`) and what is asked; the
-//! module of that name has the parts. Between any two parts stands one space. Numbers are decimal and bytes hexadecimal
-//! digits; a part that is missing, or none of these, counts as 0. Of many values the answer is their `Debug`. Where there is no
-//! memory, or nothing that a question is on, no answer is written at all, and the status is 1.
+//! A question begins with what it is on (`profile`, `filter`, `cert`, `verdict`, `kernel` or `runtime`) and what is asked. The
+//! module of that name has the parts. Between any two parts stands one space. Numbers are decimal and bytes hexadecimal digits;
+//! a part that is missing, or none of these, counts as 0. Of many values the answer is their `Debug`. Where there is no memory,
+//! or nothing that a question is on, no answer is written at all, and the status is 1.
 #![tactic(auto)]
 
 mod answers;

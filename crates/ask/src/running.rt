@@ -1,6 +1,6 @@
-//! The runtime over the kernel whose tasks have lists of filters: `runtime` and commands with tabs between, each `create ID PLACE`,
-//! where the place is that of what was kept, `start ID`, `kill ID SIG`, `delete ID`, `state ID`, `call ID TASK RECORD PROGRAM
-//! RESPONSE`, or `id - PLACE`, which asks for the id of a container by its place.
+//! The runtime over the kernel whose tasks have lists of filters: `runtime` and commands with tabs between. Each is `create ID PLACE`,
+//! `start ID`, `kill ID SIG`, `delete ID` or `state ID`. Or it is `call ID TASK RECORD PROGRAM RESPONSE`, or `id - PLACE`. The place of
+//! `create` is that of what was kept. The last asks for the id of a container by its place.
 
 use crate::answers::Answers;
 use crate::desk::Made;

@@ -1,5 +1,5 @@
--- The forms of lines: what stands in the line of each operation (the mnemonics are those of the kernel's bpf_asm,
--- Documentation/networking/filter.rst), and in a raw line, which shows any instruction.
+-- The forms of lines: what stands in the line of each operation, and in a raw line, which shows any instruction.
+-- The mnemonics are those of the kernel's bpf_asm (Documentation/networking/filter.rst).
 use Rattle.std.specs.Prelude.{ℕ, Bool, true, false, if◌then◌else◌, List, [], ◌∷◌, ◌++◌, map, codes, Option, Some, None}
 use Rattle.std.specs.List.{join_with_byte}
 use Rattle.std.specs.Char.{is_ascii_digit}

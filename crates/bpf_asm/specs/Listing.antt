@@ -16,8 +16,8 @@ is_told field i operation = is_some (notation_in (pieces_of (Some operation)) fi
 abbrev pub has_own_form : Insn → Operation → Bool
 has_own_form i operation = is_told Jt i operation && (is_told Jf i operation && is_told K i operation)
 
--- the form of an instruction's line: that of the operation which its code stands for, if it is listed and each field
--- is told, else raw
+-- the form of an instruction's line: that of the operation which its code stands for. It is raw unless that operation is
+-- listed and the line shows each field
 unfoldable pub form_of : Insn → Form
 form_of i = option_and_then (λ operation. if has_own_form i operation then Some operation else None) (operation_of i.code)
 

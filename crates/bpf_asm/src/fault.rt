@@ -7,8 +7,8 @@ use thiserror::Error;
 
 /// What is wrong with a line.
 ///
-/// Of two faults of a line this one is told: that it is line 4097; its mnemonic; its shape; a number; that it
-/// need not be `raw`; that its line feed is missing.
+/// Of two faults of a line the first of these counts: that it is line 4097; its mnemonic; its shape; a number; that
+/// it need not be `raw`; that its line feed is missing.
 #[derive(Clone, Copy, Debug, PartialEq, Eq)]
 pub enum LineFault {
     /// It begins with no mnemonic of the listing.
@@ -17,8 +17,8 @@ pub enum LineFault {
     BadNumber,
     /// It is line 4097.
     TooLong,
-    /// What follows the mnemonic has none of its shapes, a `raw` line is of an instruction that has another
-    /// form, the line feed is missing, or there is no line at all.
+    /// What follows the mnemonic has none of its shapes, or a `raw` line is of an instruction that has another
+    /// form. It also counts if the line feed is missing, or there is no line at all.
     BadLine,
 }
 

@@ -10,8 +10,8 @@ use Rattle.bpf_insn.specs.Code.{operation_of}
 abbrev pub IsUnlisted : Insn → Type 0
 IsUnlisted i = operation_of i.code ≡ None
 
--- the word that an operation reads or writes by this number is none of the sixteen of the record, by
--- its byte, or none of the sixteen scratch words (BPF_MEMWORDS)
+-- this number names no word that an operation can read or write: by its byte none of the sixteen of the
+-- record, or none of the sixteen scratch words (BPF_MEMWORDS)
 abbrev pub NamesNoWord : Option Operation → ℕ → Type 0
 NamesNoWord (Some LoadWord) k = (64 ≤ k) ⊎ (k % 4 ≢ 0)
 NamesNoWord (Some LoadScratch) k = 16 ≤ k

@@ -1,5 +1,5 @@
--- Which code stands for which operation (classic BPF, as in linux/bpf_common.h and linux/filter.h: those of its codes
--- that the kernel takes in a filter of call records and that this product knows).
+-- Which code stands for which operation (classic BPF, as in linux/bpf_common.h and linux/filter.h). These are the codes
+-- that the kernel takes in a filter of call records and that this product knows.
 use Rattle.std.specs.Prelude.{ℕ, ◌+◌, ◌==◌, List, [], ◌∷◌, Option, find}
 use Rattle.bpf_insn.specs.declared.code.Operand.{Operand}
 use Rattle.bpf_insn.specs.declared.code.Operand.TheVariants.{K, X}

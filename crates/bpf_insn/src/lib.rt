@@ -1,6 +1,6 @@
 //! Instructions of classic BPF, and programs of them in the bytes that the kernel is given.
 //!
-//! A filter is a list of [`Insn`]s, and [`Operation`] is what the code of one stands for.
+//! A filter is a list of [`Insn`]s. [`Operation`] is what the code of one stands for.
 //! [`Program::view`] reads a list from bytes and [`encode_into`] writes one.
 //! `specs/` says how a program runs on a call record (`Machine`), and what an instruction is refused
 //! for by itself (`Causes`).

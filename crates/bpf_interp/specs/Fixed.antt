@@ -1,6 +1,6 @@
--- What a program answers by the first two words of a record alone: the number of the call, and the token of the machine
--- (seccomp(2), struct seccomp_data). The kernel asks its filters so when they are loaded (seccomp_cache_prepare), and
--- runs none of them on a call that each of them is known to allow.
+-- What a program answers by the first two words of a record alone (seccomp(2), struct seccomp_data). These are the number
+-- of the call, and the token of the machine. The kernel asks its filters so when they are loaded (seccomp_cache_prepare).
+-- It runs none of them on a call that each of them is known to allow.
 use Rattle.std.specs.Prelude.{ℕ, ◌≡◌, ◌==◌, Bool, false, List, [], ◌∷◌, Option, Some, None}
 use Rattle.bpf_insn.specs.declared.instruction.Insn.{Insn}
 use Rattle.bpf_insn.specs.Machine.{verdict_of}

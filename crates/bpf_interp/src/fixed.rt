@@ -11,8 +11,9 @@ use bpf_insn::{Insn, Operation};
 use call_record::{Record, Word};
 use kernel_check::Accepted;
 
-/// Whether a filter lets each call of this machine with this number through, whatever the rest of its
-/// record holds: its run loads no other word of the record, and ends in a verdict of the action ALLOW.
+/// Whether a filter lets each call of this machine with this number through, whatever the rest of its record holds.
+///
+/// So it is if its run loads no other word of the record, and ends in a verdict of the action ALLOW.
 pub fn fixed_allow(accepted: &Accepted<'_>, arch: u32, nr: u32) -> bool
     ensures { result ≡ is_fixed_allow (accepted_insns accepted.now) arch nr }
 {

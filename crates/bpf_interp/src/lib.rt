@@ -2,7 +2,7 @@
 //!
 //! [`verdict`] answers the filter's verdict, and [`verdict_counted`] also how many instructions were run.
 //! The kernel's check has shown that every load is of a word of the record, or of a scratch word that is
-//! written by then, and that every step leads on to a later instruction, so each run ends.
+//! written by then. It has also shown that every step leads on to a later instruction, so each run ends.
 #![tactic(auto)]
 
 mod fixed;

@@ -25,8 +25,8 @@ pub fn least_below(bits: u32, from: u64, mask: u64, datum: u64) -> Option<u64>
     if mask % 2 < datum % 2 {
         return None;
     }
-    // The lowest bit of the answer is the datum's, and the start of the higher bits is rounded up
-    // where that bit is below the start's.
+    // The lowest bit of the answer is the datum's. The start of the higher bits is rounded up if that bit is below
+    // the start's.
     let next = from / 2 + (from % 2 + 1 - datum % 2) / 2;
     let high = least_below(bits - 1, next, mask / 2, datum / 2)?;
     Some(high * 2 + datum % 2)

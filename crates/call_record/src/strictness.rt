@@ -37,8 +37,8 @@ pub fn strictest(newest_first: &[Word]) -> Word
         .fold(Word::ALLOW, |older, newer| stricter(*newer, older))
 }
 
-/// The filters' verdicts may be folded from the oldest on: the strictest of a list is that of its
-/// newest verdict and the strictest of the others.
+/// The filters' verdicts may be folded from the oldest on. The strictest of a list is the stricter of its newest
+/// verdict and the strictest of the others.
 pub fn strictest_in_turn(newest: Word, older: &[Word])
     ensures { strictest_of (newest ∷ older.now)
         ≡ strictest_of (newest ∷ strictest_of older.now ∷ []) }

@@ -4,7 +4,8 @@ use Rattle.std.specs.List.{All}
 use Rattle.std.specs.Str.{bytes_eq}
 use Rattle.call_tables.specs.declared.arch.Arch.{Arch}
 use Rattle.call_tables.specs.declared.arch.Arch.TheVariants.{X86_64, Aarch64, LinuxX86_64, LinuxX86, LinuxX32}
-use Rattle.call_tables.specs.declared.arch.Arch.TheVariants.{LinuxAarch64, LinuxArm, LinuxRiscv64, LinuxPpc64le, LinuxLoongarch64, LinuxS390x, LinuxS390}
+use Rattle.call_tables.specs.declared.arch.Arch.TheVariants.{LinuxAarch64, LinuxArm, LinuxRiscv64, LinuxPpc64le}
+use Rattle.call_tables.specs.declared.arch.Arch.TheVariants.{LinuxLoongarch64, LinuxS390x, LinuxS390}
 use Rattle.call_tables.specs.declared.arch.Family.{Family}
 use Rattle.call_tables.specs.declared.arch.Family.TheVariants.{Chosen, Whole}
 use Rattle.call_tables.specs.Table.{Table}
@@ -149,7 +150,8 @@ same_family Whole Whole = true
 abbrev pub machines_of : Family → List Arch
 machines_of Chosen = X86_64 ∷ Aarch64 ∷ []
 machines_of Whole =
-    LinuxX86_64 ∷ LinuxX32 ∷ LinuxX86 ∷ LinuxAarch64 ∷ LinuxArm ∷ LinuxRiscv64 ∷ LinuxPpc64le ∷ LinuxLoongarch64 ∷ LinuxS390x ∷ LinuxS390 ∷ []
+    LinuxX86_64 ∷ LinuxX32 ∷ LinuxX86 ∷ LinuxAarch64 ∷ LinuxArm ∷
+    LinuxRiscv64 ∷ LinuxPpc64le ∷ LinuxLoongarch64 ∷ LinuxS390x ∷ LinuxS390 ∷ []
 
 -- all of these machines are of the family
 abbrev pub AreOfFamily : Family → List Arch → Type 0

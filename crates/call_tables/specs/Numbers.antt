@@ -1,11 +1,12 @@
--- Which numbers of calls are a machine's own. x32 calls carry the token of x86-64 and the bit 0x40000000 in their number
--- (the kernel's arch/x86/include/uapi/asm/unistd.h, __X32_SYSCALL_BIT). A call that a tracer skipped has the number
+-- Which numbers of calls are a machine's own. x32 calls carry the token of x86-64. Their numbers have the bit 0x40000000
+-- (__X32_SYSCALL_BIT of the kernel's arch/x86/include/uapi/asm/unistd.h). A call that a tracer skipped has the number
 -- 0xffffffff, which the kernel takes for none of x32. The chosen lists leave all numbers from 0x40000000 on foreign.
 use Rattle.std.specs.Prelude.{◌≡◌, ℕ, ◌≤◌, ◌==◌, ◌&&◌, not, nat_le, Bool, if◌then◌else◌, List, [], ◌∷◌}
 use Rattle.std.specs.List.{Any, list_any}
 use Rattle.call_tables.specs.declared.arch.Arch.{Arch}
 use Rattle.call_tables.specs.declared.arch.Arch.TheVariants.{X86_64, Aarch64, LinuxX86_64, LinuxX86, LinuxX32}
-use Rattle.call_tables.specs.declared.arch.Arch.TheVariants.{LinuxAarch64, LinuxArm, LinuxRiscv64, LinuxPpc64le, LinuxLoongarch64, LinuxS390x, LinuxS390}
+use Rattle.call_tables.specs.declared.arch.Arch.TheVariants.{LinuxAarch64, LinuxArm, LinuxRiscv64, LinuxPpc64le}
+use Rattle.call_tables.specs.declared.arch.Arch.TheVariants.{LinuxLoongarch64, LinuxS390x, LinuxS390}
 use Rattle.call_tables.specs.declared.numbers.Numbers.{Numbers}
 use Rattle.call_tables.specs.Arch.{token_of, family_of, same_arch, same_family}
 
@@ -69,7 +70,7 @@ abbrev pub shares_token : Arch → Arch → Bool
 shares_token arch other =
     not (same_arch other arch) && (same_family (family_of other) (family_of arch) && token_of other == token_of arch)
 
--- The numbers of calls with a machine's token that are none of these machines' own: where another of the family has the token,
--- there are none, since each number is one of either.
+-- The numbers of calls with a machine's token that are none of these machines' own. If another of the family has the
+-- token, there are none, since each number is one of either.
 abbrev pub foreign_numbers : List Arch → Arch → List Numbers
 foreign_numbers machines arch = if list_any (shares_token arch) machines then [] else other_numbers arch

@@ -239,8 +239,10 @@ impl Arch {
         }
     }
 
-    /// The machine with this name, of those that a container may be for: a kernel of x86-64 runs the calls of x86
-    /// and x32, one of AArch64 those of ARM, and one of s390x those of s390 (up to Linux 6).
+    /// The machine with this name, of those that a container may be for.
+    ///
+    /// A kernel of x86-64 runs the calls of x86 and x32 too. One of AArch64 runs those of ARM, and one of s390x those of
+    /// s390 (up to Linux 6).
     #[tactic(auto, unfolding(crate::specs::Arch::native_called))]
     pub fn native_called(name: &str) -> Option<Arch>
         ensures { result ≡ native_called name.now }

@@ -2,7 +2,7 @@
 //!
 //! A machine is known as a type by [`Machine`], and as a value by [`Arch`]. Each has a token, as a
 //! call record carries it, a name, as a bundle lists it, and a table of calls. A table holds each
-//! name and each number once, so that looking up a name and looking up a number undo each other.
+//! name and each number once. So looking up a name and looking up a number undo each other.
 //!
 //! x86-64 and AArch64 stand here twice: with a list of calls that this project chose, and with all
 //! calls of Linux. Beside the latter stand x86, x32 and ARM, whose calls the same kernels run, and further machines,

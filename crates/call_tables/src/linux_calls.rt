@@ -1,7 +1,9 @@
-//! All calls of Linux 7.3 on x86-64, x86, x32, AArch64, ARM, riscv64, ppc64le, loongarch64, s390x and s390, as the
-//! kernel's tables of calls list them (`arch/x86/entry/syscalls/syscall_64.tbl` and `syscall_32.tbl`, `scripts/syscall.tbl`,
-//! `arch/arm/tools/syscall.tbl`, `arch/powerpc/kernel/syscalls/syscall.tbl`, `arch/s390/kernel/syscalls/syscall.tbl`). Those of s390
-//! are of Linux 6.12. The later half stands in `linux_calls_later`.
+//! All calls of Linux 7.3 on x86-64, x86, x32, AArch64, ARM, riscv64, ppc64le, loongarch64, s390x and s390.
+//!
+//! The kernel's tables of calls list them so: `arch/x86/entry/syscalls/syscall_64.tbl` and `syscall_32.tbl`,
+//! `scripts/syscall.tbl`, `arch/arm/tools/syscall.tbl`, `arch/powerpc/kernel/syscalls/syscall.tbl`,
+//! `arch/s390/kernel/syscalls/syscall.tbl`. Those of s390 are of Linux 6.12. The later half stands in
+//! `linux_calls_later`.
 
 /// Stands where a machine has no call of the name. No call has this number.
 pub(crate) const NONE: u32 = u32::MAX;

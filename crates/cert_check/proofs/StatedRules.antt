@@ -1,4 +1,4 @@
--- Where each word of a record is stated, each rule of the record's machine is yes or no, as it matches the record or does not.
+-- Suppose that each word of a record is stated. Then each rule of the record's machine is yes or no, as it matches the record or does not.
 use Rattle.std.proofs.Common.{◌≡◌, ℕ, suc, ◌⊎◌, Bool, List, [], ◌∷◌, refl, inl, inr, arith}
 use Rattle.std.specs.Prelude.{All, Contains}
 use Rattle.std.proofs.lemmas.Bool.{cases_eq}

@@ -1,5 +1,5 @@
 -- Where what is known of a record settles the verdict that a profile says of it. Arguments have 64 bits, and what is
--- known is of their halves: the low half of argument j is word 4 + 2 * j, the high half the word after it. Of a narrow
+-- known is of their halves. The low half of argument j is word 4 + 2 * j, the high half the word after it. Of a narrow
 -- argument the low half alone is compared, and the high one counts as 0, whatever is known of it.
 use Rattle.std.specs.Prelude.{◌≡◌, ◌≢◌, ℕ, ◌+◌, ◌*◌, ◌/◌, ◌%◌, ◌^◌, ◌⊎◌, Bool, true, false, List, [], All, Any, Contains, Some, slice_get}
 use Rattle.call_tables.specs.declared.arch.Arch.{Arch}
@@ -105,8 +105,8 @@ pub record OneIsNo (narrow : Bool) (met : List (ℕ × ℕ)) (known : List Lit) 
   pub not_met : Contains met (place, own) → ⊥
   pub is_no : IsNo narrow known cond
 
--- so the rule at a place: yes where the number is known to be its own and each condition is yes, no where the number
--- is known to be another or a condition is no
+-- So the rule at a place. It is yes if the number is known to be its own and each condition is yes. It is no if the
+-- number is known to be another or a condition is no.
 abbrev pub IsYesRule : List (ℕ × ℕ) → List Lit → ℕ → Rule → Type 0
 IsYesRule met known place rule =
     Entails known (Bits 0 all_bits rule.nr) × AllAreYes (is_narrow_rule rule) met known place rule.conds.items
@@ -148,7 +148,8 @@ RulesAgree policy out met known v arch = OneSays policy out met known v arch ⊎
 abbrev pub IsAmong : List Lit → List Numbers → Type 0
 IsAmong known all = Any (λ numbers. Entails known (In 0 numbers.first numbers.last)) all
 
--- no number with the machine's token is foreign, of these; or v is 0, or the number is known to be one of the machine's own
+-- No number with the machine's token is foreign, of these. Or v is 0, or the number is known to be one of the machine's
+-- own.
 abbrev pub ForeignNumbersAgree : List Lit → ℕ → Arch → List Numbers → Type 0
 ForeignNumbersAgree known v arch foreign = (foreign ≡ []) ⊎ ((v ≡ 0) ⊎ IsAmong known (own_numbers arch))
 
@@ -162,8 +163,8 @@ abbrev pub ListedAgrees : Policy → List ℕ → List (ℕ × ℕ) → List Lit
 ListedAgrees policy out met known v arch =
     Entails known (NotBits 1 all_bits (token_of arch)) ⊎ MachineAgrees policy out met known v arch
 
--- the profile agrees with v where these rules are out and these conditions are met: v is 0 where a foreign record is
--- possible, and each machine agrees that is possible
+-- The profile agrees with v if these rules are out and these conditions are met. Here v is 0 if a foreign record is
+-- possible, and each machine that is possible agrees.
 pub record Agrees (policy : Policy) (out : List ℕ) (met : List (ℕ × ℕ)) (known : List Lit) (v : ℕ) : Type 0 where
   pub foreign : ((arch : Arch) × Contains policy.machines arch × Entails known (Bits 1 all_bits (token_of arch))) ⊎ (v ≡ 0)
   pub machines : All (ListedAgrees policy out met known v) policy.machines

@@ -46,8 +46,8 @@ abbrev pub one_edge : ℕ → ℕ → ℕ → Regs → Option (List Edge)
 one_edge first second pc regs =
     if second == no_node then Some (record { to = first; pc = pc; fact = None; regs = regs } ∷ []) else None
 
--- the edges of a step at an instruction, by its operation, and none where it may not stand there: a step at a
--- conditional jump has two successors (taken, not taken), a step at a return has no place, any other has one
+-- The edges of a step at an instruction, by its operation, and none if it may not stand there. A step at a conditional
+-- jump has two successors (taken, not taken). A step at a return has no place, and any other has one successor.
 abbrev pub step_edges : Option Operation → PlainNode → ℕ → ℕ → Insn → Option (List Edge)
 step_edges (Some (Branch test operand)) n first second i =
     Some (record { to = first; pc = n.pc + 1 + i.jt; fact = fact_at n i true; regs = transfer n.regs i }
@@ -73,8 +73,8 @@ edges n i = edges_by n.kind n i
 abbrev pub Leads : List PlainNode → ℕ → Edge → Type 0
 Leads ns i e = (i < e.to) × ((m : PlainNode) × (slice_get ns e.to ≡ Some m) × (m.pc ≡ e.pc))
 
--- Root: node 0 stands at position 0, knows no literal, says no rule to be out and no condition to be met, A and X are
--- 0, and no scratch word is stated
+-- Root: node 0 stands at position 0 and knows no literal. It says no rule to be out and no condition to be met. There A
+-- and X are 0, and no scratch word is stated.
 pub record RootRule (ns : List PlainNode) : Type 0 where
   pub root : PlainNode
   pub first : slice_get ns 0 ≡ Some root
@@ -125,8 +125,8 @@ pub record IsOutOn (policy : Policy) (n : PlainNode) (e : Edge) (place : ℕ) : 
   pub stands : slice_get policy.rules place ≡ Some rule
   pub reason : Contains n.out place ⊎ IsRefuted (known_on n e) rule
 
--- the condition of the profile with these places, that of its rule and its own, is met: it was among those that were, or
--- what is known makes it yes
+-- The condition of the profile with these places, that of its rule and its own, is met. It was among those that were
+-- met, or what is known makes it yes.
 pub record IsMetBy (policy : Policy) (met : List (ℕ × ℕ)) (known : List Lit) (place : ℕ × ℕ) : Type 0 where
   pub rule : Rule
   pub stands : slice_get policy.rules place.0 ≡ Some rule

@@ -1,5 +1,5 @@
--- What is known in full is settled: where each word of a record is stated, a return of the verdict that the profile says of the
--- record agrees by what is known. The listed machines are of one family, so that each number of a token is one machine's own: of
+-- What is known in full is settled. If each word of a record is stated, a return of the verdict that the profile says of the
+-- record agrees by what is known. The listed machines are of one family, so that each number of a token is one machine's own. Of
 -- machines of two families a number may be one's own and foreign to the other.
 use Rattle.std.specs.Prelude.{◌<◌, ℕ, List, [], All, Contains}
 use Rattle.call_record.specs.Words.{IsRecord, word}

@@ -31,7 +31,8 @@ pub record IsSaidOf (policy : Policy) (v : ℕ) (arch : Arch) (nr : ℕ) : Type 
 abbrev pub AreSaidOf : Policy → ℕ → Arch → ℕ → ℕ → Type 0
 AreSaidOf policy v arch low high = (nr : ℕ) → low ≤ nr → nr ≤ high → IsSaidOf policy v arch nr
 
--- the record is known to be of the machine, no foreign number is possible or v is 0, and such a rule is for each number of the range
+-- The record is known to be of the machine. No foreign number is possible, or v is 0. For each number of the range there is such a
+-- rule.
 pub record SaysOfRange (policy : Policy) (known : List Lit) (v : ℕ) (arch : Arch) : Type 0 where
   pub is_of : Entails known (Bits 1 all_bits (token_of arch))
   pub foreign : ForeignNumbersAgree known v arch (foreign_numbers policy.machines arch)

@@ -93,8 +93,8 @@ impl<S: State> Agreement<'_, S> {
         !self.agrees_at(place)
     }
 
-    // Whether a rule at a place is left for a machine and is still asked: once another verdict is possible, rules with other
-    // verdicts are not.
+    // Whether a rule at a place is left for a machine and is still asked. Once another verdict is possible, rules with other
+    // verdicts are not asked.
     fn is_asked(&self, place: usize, rule: &Rule, arch: Arch, others: bool) -> bool
         requires told { AreTold self.now.profile.now (known_of self.now) self.now.word self.now.told.now }
         requires place { place < 8192 }
@@ -173,8 +173,8 @@ impl<S: State> Agreement<'_, S> {
         false
     }
 
-    // Whether a rule of the only number that is possible is seen to say the verdict: one of which conditions are said to be met,
-    // as mostly, or one without conditions. Then no other rule is asked.
+    // Whether a rule of the only number that is possible is seen to say the verdict. It is one of which conditions are said to
+    // be met, as mostly, or one without conditions. Then no other rule is asked.
     fn one_says(&self, arch: Arch) -> bool
         ensures { let a = self.now in IsTrue result → OneSays a.profile.now (out_of a) (met_of a) (known_of a) a.word arch }
     {
@@ -321,8 +321,8 @@ impl<S: State> Agreement<'_, S> {
         is_listed(self.facts, self.profile.machines())
     }
 
-    /// Whether the profile says the verdict of each record of which this is known, and also that no rule matches that is out
-    /// and that the conditions are met that are said to be.
+    /// Whether the profile says the verdict of each record of which this is known. It is also known that no rule that is out
+    /// matches. And the conditions that are said to be met are met.
     pub(crate) fn agrees(&self, likely: &mut Likely) -> bool
         requires told { AreTold self.now.profile.now (known_of self.now) self.now.word self.now.told.now }
         ensures { let a = self.now in IsTrue result ↔ Agrees a.profile.now (out_of a) (met_of a) (known_of a) a.word }

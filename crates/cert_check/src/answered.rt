@@ -70,8 +70,8 @@ fn answers(last: &Answered<'_>, asked: Asked, narrow: bool, conds: &[Cond]) -> b
     are_same(last.conds, conds)
 }
 
-/// Whether what is asked is so of the conditions of the rule at a place, of which some are said to be met; and the place of the
-/// condition that decided it, if one did.
+/// Whether what is asked is so of the conditions of the rule at a place. Some of them are said to be met. It also returns the
+/// place of the condition that decided it, if one did.
 pub(crate) fn ask_from<S: State>(
     facts: &Facts<'_, S>,
     mets: &Mets<'_, '_>,

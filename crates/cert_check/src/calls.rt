@@ -28,7 +28,7 @@ impl<S: State> Agreement<'_, S> {
         false
     }
 
-    /// Whether the rules that are left for a machine agree with the verdict, where the number is known to be no other one: those
+    /// Whether the rules that are left for a machine agree with the verdict, if the number is known to be no other one. Rules
     /// for other calls are refuted.
     pub(crate) fn call_agrees(&self, arch: Arch, nr: u32, likely: &mut Likely) -> bool
         requires told { AreTold self.now.profile.now (known_of self.now) self.now.word self.now.told.now }

@@ -5,8 +5,8 @@ ghost use Rattle.cert_check.specs.Right.{GivesOnly};
 use kernel_check::Accepted;
 use profile::Profile;
 
-/// A profile, a filter that answers each call record with the profile's verdict, and the certificate that says why, lent
-/// in the bytes that they were read from.
+/// A profile, a filter that answers each call record with the profile's verdict, and the certificate that says why. They
+/// are lent in the bytes that they were read from.
 ///
 /// `check` makes one, and nothing else does.
 #[derive(Clone, Copy)]

@@ -81,9 +81,9 @@ fn checked<'a>(
 
 /// Whether the certificate shows that the filter gives each call record the verdict that the profile says.
 ///
-/// The first rule that is broken is told, in this order: of the filter's bytes, the kernel's check, the certificate's
-/// bytes, its root, and then of the nodes from 0, at each Edge, Split, Entail, Return. Memory is asked for only where
-/// the certificate is of form 1.
+/// The first rule that is broken is reported. The order is: the filter's bytes, the kernel's check, the certificate's
+/// bytes, its root. Then come the nodes from 0, at each Edge, Split, Entail, Return. Memory is asked for only if the
+/// certificate is of form 1.
 pub fn check<'a>(
     alloc: Global,
     profile: &'a Profile,

@@ -311,8 +311,8 @@ fn is_no_at<K: Knowledge>(
     is_no_nor_met(known, mets, place, own, narrow, &conds[own])
 }
 
-/// The place of one of the conditions of the rule at a place that is neither yes nor said to be met, if there is one: those at two
-/// likely places are asked first.
+/// The place of a condition of the rule at a place that is neither yes nor said to be met, if there is one. The
+/// conditions at two likely places are asked first.
 pub(crate) fn one_open<K: Knowledge>(
     known: &K,
     mets: &Mets<'_, '_>,

@@ -75,8 +75,8 @@ fn is_fact(fact: Option<Lit>, literal: &Lit) -> bool
     fact == Some(*literal)
 }
 
-// The place from which on the next literal is looked for first, where this one stands in its turn or is the fact of the
-// edge: nodes in a row know the same literals in the same order.
+// From this place on the next literal is looked for first, if this one stands in its turn or is the fact of the edge.
+// Nodes in a row know the same literals in the same order.
 fn in_turn<S: State>(known: &With<'_, S>, from: usize, literal: &Lit) -> Option<usize>
     requires { AreAmong (S.rest known.now.state.now from) (S.known known.now.state.now) }
     ensures { IfSome result (λ next. Contains (S.known known.now.state.now ++ option_to_list known.now.more) literal.now

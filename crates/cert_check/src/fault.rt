@@ -5,8 +5,8 @@ use kernel_check::Refused;
 use std::fmt;
 use thiserror::Error;
 
-/// The first rule that is broken: of the filter's bytes, the kernel's check, the certificate's form and its root, and
-/// then of the nodes from 0, at one node in the order Edge, Split, Entail, Return.
+/// The first rule that is broken. The order is: the filter's bytes, the kernel's check, the certificate's form and its
+/// root. Then come the nodes from 0, at one node in the order Edge, Split, Entail, Return.
 #[derive(Clone, Copy, Debug, PartialEq, Eq, Error)]
 pub enum CheckError {
     /// The filter's bytes are no program.

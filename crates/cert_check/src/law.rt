@@ -13,8 +13,8 @@ pub fn valid_is_kept()
     ensures { ValidIsKept }
 {}
 
-/// Where each word of a record is stated and all that is known holds of it, a return of the verdict that the profile says of the
-/// record agrees by what is known: nothing has to be said of its rules.
+/// Suppose that each word of a record is stated, and that all that is known holds of it. Then a return of the verdict that the
+/// profile says of the record agrees by what is known. Nothing has to be said of its rules.
 pub fn stated_is_settled()
     ensures { StatedIsSettled }
 {}

@@ -7,8 +7,8 @@ use crate::claims::{has_no_met, has_none};
 use cert_form::CertView;
 use cert_state::{AVal, State};
 
-/// Whether node 0 stands at position 0, knows no literal, says no rule to be out and no condition to be met, A and X
-/// are 0, and no scratch word is stated.
+/// Whether node 0 keeps the rule of the root. It stands at position 0 and knows no literal. It says no rule to be out
+/// and no condition to be met. A and X are 0, and no scratch word is stated.
 pub(crate) fn root_is_kept(view: &CertView<'_>) -> bool
     requires { 0 < length (nodes_of view.now) }
     ensures { IsTrue result ↔ RootRule (nodes_of view.now) }

@@ -9,8 +9,8 @@ use call_record::Word;
 use cert_state::{Facts, State};
 use profile::Profile;
 
-/// Whether the profile says a verdict of each record of which a state knows: the first way of a return, where no rule is said to be
-/// out and no condition to be met. The room serves one question after the other.
+/// Whether the profile says a verdict of each record of which a state knows. This is the first way of a return: no rule is said to
+/// be out and no condition to be met. The room serves one question after the other.
 pub fn is_settled<S: State>(profile: &Profile, state: &S, word: Word, scratch: &mut Scratch) -> bool
     ensures { IsTrue result ↔ Agrees profile.now [] [] (S.known state.now) word }
 {

@@ -1,4 +1,4 @@
-//! Answers to the conditions of rules where the record may be of several machines: what an entry asks is asked once for all machines
+//! Answers to the conditions of rules if the record may be of several machines. What an entry asks is asked once for all machines
 //! whose arguments are as wide.
 ghost use Rattle.std.specs.Prelude.{◌≡◌, ◌<◌, ◌↔◌, IsTrue, IfSome, None, Some, replicate, slice_get};
 ghost use Rattle.profile.specs.declared.rules.Rule.{Rule as TheRule};
@@ -18,7 +18,8 @@ use crate::numbers::number_range;
 use cert_state::State;
 use profile::Rule;
 
-/// Whether a rule bears on a verdict, by the answer to what is asked of its conditions; and that answer, by whether it bears on it.
+/// Whether a rule bears on a verdict, by the answer to what is asked of its conditions. It also returns that answer, by whether the
+/// rule bears on the verdict.
 pub(crate) fn turned(asked: Asked, so: bool) -> bool
     ensures { result ≡ turn asked so }
 {
@@ -73,7 +74,8 @@ impl<S: State> Agreement<'_, S> {
         }
     }
 
-    // Whether a rule at a place is worth asking: it is not out, its number is possible, and if it says the verdict, no other one is.
+    // Whether a rule at a place is worth asking. It is not out, and its number is possible. If it says the verdict, no other number
+    // is possible.
     fn is_wanted(&self, place: usize, rule: &Rule, range: (u32, u32)) -> bool
         requires { place < 8192 }
     {
@@ -87,8 +89,8 @@ impl<S: State> Agreement<'_, S> {
         !self.outs.has(place)
     }
 
-    // Whether the rule at a place bears on the verdict by its conditions: as an earlier one does which says the same, or by what
-    // comes of asking.
+    // Whether the rule at a place bears on the verdict by its conditions. It does as an earlier rule does which says the same,
+    // or by what comes of asking.
     fn tell(
         &self,
         place: usize,
@@ -169,8 +171,8 @@ impl<S: State> Agreement<'_, S> {
         told.agrees(likely)
     }
 
-    /// Whether the profile says the verdict of each record of which this is known, and also that no rule matches that is out
-    /// and that the conditions are met that are said to be.
+    /// Whether the profile says the verdict of each record of which this is known. It is also known that no rule that is out
+    /// matches. And the conditions that are said to be met are met.
     pub(crate) fn agrees_in_all(&self, likely: &mut Likely) -> bool
         requires told { AreTold self.now.profile.now (known_of self.now) self.now.word self.now.told.now }
         ensures { let a = self.now in IsTrue result ↔ Agrees a.profile.now (out_of a) (met_of a) (known_of a) a.word }

@@ -118,8 +118,8 @@ Faulty BadCount bytes = HasBadCount bytes
 Faulty Trailing bytes = place_of bytes (node_count bytes) < length bytes
 Faulty OutOfMemory bytes = version_of bytes ≡ 1
 
--- The faults that are looked for before the version: with a version that is none of the four, no other is told but the
--- version itself. So no fault is told of a field that a file does not have.
+-- The faults that are looked for before the version. With a version that is none of the four, no other fault is
+-- reported but the version itself. So no fault is reported of a field that a file does not have.
 abbrev pub IsToldFirst : FormError → List ℕ → Type 0
 IsToldFirst BadMagic bytes = Unit {0}
 IsToldFirst BadVersion bytes = Unit {0}

@@ -79,8 +79,8 @@ listed_node bytes at = record {
   sharp = false;
 }
 
--- forms 2 to 4: the entry at a position, counted from 0, and those before it; in form 4 the tag 4 says that a
--- rule is out, and the tag 5 that a condition is met
+-- Forms 2 to 4: the entry at a position, counted from 0, and those before it. In form 4 the tag 4 says that a rule is
+-- out, and the tag 5 that a condition is met.
 abbrev pub parent_at : List ℕ → ℕ → ℕ
 parent_at bytes j = long_at bytes (16 + 14 * j)
 
@@ -156,8 +156,8 @@ nodes_in bytes = map (λ i. node_at bytes (place_of bytes i)) (range_with_len 0 
 abbrev pub offset_at : List ℕ → ℕ → ℕ
 offset_at bytes i = long_at bytes (16 + 14 * chain_count bytes + 4 * i)
 
--- the literals of the node at a place that are left, from a place among them on: in form 1 the
--- number of those that are left, in the others the number of an entry; 0 is the end
+-- The literals of the node at a place that are left, from a place among them on. In form 1 that place is the number of
+-- those that are left, in the others the number of an entry. The end is 0.
 unfoldable pub literals_left : List ℕ → ℕ → ℕ → List Lit
 literals_left bytes at place =
     if version_of bytes == 1 then (if nat_le place (own_count bytes at) then literals_to bytes (own_end bytes at) place else [])

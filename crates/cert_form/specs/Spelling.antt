@@ -1,5 +1,5 @@
--- The bytes of certificates, in four forms: one spelling for a list of nodes, or for a list of
--- entries of chains and a list of nodes.
+-- The bytes of certificates, in four forms. There is one spelling for a list of nodes, or for a list of entries of
+-- chains and a list of nodes.
 use Rattle.std.specs.Prelude.{◌≡◌, ℕ, ◌+◌, ◌*◌, ◌==◌, ◌^◌, ◌<◌, ◌≤◌, ◌⊎◌, ⊤, false, if◌then◌else◌}
 use Rattle.std.specs.Prelude.{Some, List, [], ◌∷◌, ◌++◌, length, slice_get}
 use Rattle.std.specs.Prelude.{map, replicate}

@@ -160,7 +160,7 @@ impl<'a> NodeView<'a> {
         next_claim(self.bytes, at)
     }
 
-    /// The place where the chain of another node of the same certificate meets this one's: from there on they are one, and
+    /// The place where the chain of another node of the same certificate meets this one's. From there on they are one, and
     /// above it they share no entry.
     pub fn meeting(&self, other: &NodeView<'_>) -> usize
         ensures here { AreLast (claims_from self.now result) (claims_of self.now) }

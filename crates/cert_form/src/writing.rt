@@ -42,8 +42,8 @@ fn put_nodes(out: &mut Vec<u8>, nodes: &[Node]) -> Result<(), FormError>
     Ok(())
 }
 
-/// The nodes in form 1. They are refused only for a limit of the form, for memory, or where a scratch value is
-/// stated, for which form 1 has no field.
+/// The nodes in form 1. They are refused only for a limit of the form, for memory, or if a scratch value is stated.
+/// Form 1 has no field for such a value.
 pub fn write(alloc: Global, nodes: &[Node]) -> Result<Vec<u8>, FormError>
     // What is written are the bytes of these nodes, which keep the limits.
     ensures spelled { IfOk result (λ bytes. bytes.items ≡ listed (plains nodes.now)) }

@@ -50,8 +50,8 @@ pub record IsTornAt (lits : List Lit) (w : ℕ) : Type 0 where
   pub other : Contains lits (Bits w other_mask other_datum)
   pub differ : Differ mask datum other_mask other_datum
 
--- the literals of the word w can not all be true: it has no point, two of its Bits differ, no number
--- from its least to its greatest point is as its Bits say, or a NotBits excludes what they say
+-- The literals of the word w can not all be true. It has no point, or two of its Bits differ. Or no number from its
+-- least to its greatest point is as its Bits say, or a NotBits excludes what they say.
 abbrev pub IsDeadAt : List Lit → ℕ → Type 0
 IsDeadAt lits w =
     HasNoPoint lits w

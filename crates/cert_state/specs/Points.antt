@@ -10,7 +10,8 @@ IsWhole (In w lo hi) = ⊤
 IsWhole (Bits w m d) = m ≡ all_bits
 IsWhole (NotBits w m d) = m ≡ all_bits
 
--- u is a point of the word w: of 32 bits, and it meets each In of w, and each Bits and NotBits of w whose mask is all
+-- The number u is a point of the word w. It has 32 bits, and it meets each In of w, and each Bits and NotBits of w
+-- whose mask is all.
 abbrev pub IsPoint : List Lit → ℕ → ℕ → Type 0
 IsPoint lits w u = (u < 2 ^ 32) × All (λ l. index_of l ≡ w → IsWhole l → Meets l u) lits
 

@@ -1,5 +1,6 @@
 -- Sharp facts: what is known on an edge of a jump in certificates of form 4. They tell more than `edge_fact` of a word
--- under a mask, by the lowest bit of the mask, by the mask itself, or by what is known of the bits outside.
+-- under a mask. They tell it by the lowest bit of the mask, by the mask itself, or by what is known of the bits
+-- outside.
 use Rattle.std.specs.Prelude.{ℕ, ◌+◌, ◌-◌, ◌^◌, ◌==◌, nat_le, nat_lt, min, bit_and, bit_or, bit_xor}
 use Rattle.std.specs.Prelude.{◌&&◌, Bool, true, false, if◌then◌else◌, List, Option, Some, None}
 use Rattle.std.specs.Int.{w32, trailing_zeros}
@@ -41,7 +42,7 @@ any_fact w m true = if is_bit m then Some (Bits w m m) else Some (NotBits w m 0)
 any_fact w m false = Some (Bits w m 0)
 
 -- The word w under the mask m is above c, or is not. With what it has outside the mask, if that is known, it is the word itself.
--- Else, of a c below the mask's lowest bit, it is above c if it has some bit of the mask; and the word is never less than it is
+-- Else, if c is below the mask's lowest bit, it is above c if it has some bit of the mask. The word is never less than it is
 -- under a mask.
 abbrev pub beside_fact : ℕ → ℕ → ℕ → Option ℕ → Bool → Option Lit
 beside_fact w m c (Some d) taken = masked_fact Greater w all_bits (min (c + d) all_bits) taken

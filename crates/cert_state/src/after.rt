@@ -127,8 +127,8 @@ pub(crate) fn compared(regs: &Regs, insn: &Insn) -> Option<(Test, AVal, AVal)>
     Some((test, regs.a, value(operand, insn, regs)))
 }
 
-/// What is known on the edge of a conditional jump that is taken where its test holds, or on the other one, by what is known
-/// of the registers.
+/// What is known on an edge of a conditional jump, by what is known of the registers. It is the edge that is taken if the
+/// test holds, or the other one.
 pub fn edge_fact_by(regs: &Regs, insn: &Insn, taken: bool) -> Option<Lit>
     ensures { result ≡ fact_of regs.now insn.now taken }
 {

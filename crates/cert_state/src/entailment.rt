@@ -59,8 +59,8 @@ fn downwards(number: u32) -> u32 {
     halves | halves >> 16
 }
 
-// What is likely the least number from `low` on with the datum under the mask: the free bits are those of `low` above the
-// highest bit where the datum differs, or one of them is raised, and all below are clear.
+// What is likely the least number from `low` on with the datum under the mask. The free bits are those of `low` above the
+// highest bit where the datum differs, or one of them is raised. All free bits below are clear.
 fn likely(low: u32, mask: u32, datum: u32) -> u32 {
     let free = u32::MAX ^ mask;
     let first = low & free | datum;

@@ -1,10 +1,11 @@
 //! What is known where an execution of a program stands, and what follows from it.
 //!
-//! A [`State`] says what A, X and the scratch words hold, and lends [`Lit`]s, each of which is known of a
-//! word of the record. [`transfer`] and [`edge_fact`] say what is known after an instruction, [`sharp_fact`] a little
-//! more than `edge_fact`, [`entails`] what else is known, [`range`] from where to where a word may lie, and [`dead`] that no
-//! record is left. [`Facts`] has that of a state for many questions, and [`Learned`] of literals that come and go.
-//! The functions with `is_sound` in their names promise that all this is true. Nothing here but [`Learned`] takes memory.
+//! A [`State`] says what A, X and the scratch words hold, and lends [`Lit`]s, each of which is known of a word of the
+//! record. After an instruction, [`transfer`] and [`edge_fact`] say what is known, and [`sharp_fact`] says a little more
+//! than `edge_fact`. What else is known is said by [`entails`]. From where to where a word may lie is said by [`range`], and
+//! that no record is left by [`dead`]. For many questions, [`Facts`] has that of a state, and [`Learned`] of literals that
+//! come and go. The functions with `is_sound` in their names promise that all this is true. Nothing here but [`Learned`]
+//! takes memory.
 #![tactic(auto)]
 
 mod after;

@@ -112,8 +112,8 @@ fn sharp_test_fact<S: State>(
     }
 }
 
-/// What certificates of form 4 tell on the edge of a conditional jump that is taken where its test holds, or on the other
-/// one, by what is known of the registers.
+/// What certificates of form 4 tell on an edge of a conditional jump, by what is known of the registers. It is the edge
+/// that is taken if the test holds, or the other one.
 pub fn sharp_fact_by<S: State>(state: &S, regs: &Regs, insn: &Insn, taken: bool) -> Option<Lit>
     ensures { result ≡ fact_of (S.known state.now) regs.now insn.now taken }
 {

@@ -92,8 +92,8 @@ fn spoken<S: State>(state: &S) -> u64
     seen
 }
 
-// Puts the literals of a word, of which there are none if its bit is not set, at this place and after it, and tells where
-// they end, if there is room for them.
+// Puts the literals of a word at this place and after it, if there is room for them, and returns where they end. If the
+// bit of the word is not set, there are none.
 fn put_word<S: State>(
     state: &S,
     seen: u64,

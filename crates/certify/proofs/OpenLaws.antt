@@ -1,4 +1,4 @@
--- The first machine of which it is not told whether a call is its, and what is said of an answer that is there or not.
+-- The first machine of which it is not told whether a call is its. Also, what is said of an answer that is there or not.
 use Rattle.std.proofs.Common.{◌≡◌, ℕ, ◌<◌, List, length, get_or, sym, ap, ◌∙◌, subst, refl}
 use Rattle.std.specs.Prelude.{Option, Some, None, IfSome, MatchOption, slice_index_or}
 use Rattle.std.proofs.lemmas.Option.{get_or_from_slice_get, slice_get-get_or}

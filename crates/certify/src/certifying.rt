@@ -31,9 +31,9 @@ fn told(error: PathsError) -> CertifyError
 
 /// A certificate that the filter gives each call record the verdict that the profile says. The checker says yes to it.
 ///
-/// That there is none says nothing of the filter, but for two kinds. Of a right filter of which each comparison tells all that it
-/// asks, as each of the compiler's does, an error tells of memory or of the format's limits. Where no rule has a condition and the
-/// filter has the shape of such a profile's, memory was refused.
+/// That there is none says nothing of the filter, but for two kinds. If the filter is right, and each of its comparisons tells all that it
+/// asks, an error is due to memory or the format's limits. Each comparison of the compiler's filters tells all that it asks. If no rule has
+/// a condition, and the filter has the shape of such a profile's, memory was refused.
 #[tactic(auto, using(crate::proofs::RightLaws::right_of_telling))]
 pub fn certify_accepted(
     alloc: Global,
@@ -63,7 +63,7 @@ pub fn certify(
     ensures accepted { OnOk result (IsAccepted (insns program.now)) }
     // The certificate keeps each rule of the checker.
     ensures valid { MakesValid profile.now (insns program.now) result }
-    // A right filter that the kernel accepts, and of which each comparison tells all that it asks, is certified, if memory and the
+    // Take a right filter that the kernel accepts, and of which each comparison tells all that it asks. It is certified, if memory and the
     // format have room for it. Each that compares steadily is one.
     ensures telling { IsAccepted (insns program.now) → TellingLacksRoom profile.now (insns program.now) result }
     ensures sure { IsAccepted (insns program.now) → RightLacksRoom profile.now (insns program.now) result }

@@ -8,8 +8,8 @@ use std::alloc::{AllocError, AllocFailed};
 pub enum PathsError {
     /// The filter gives this call record another verdict than the profile says. It was met at the return at this position.
     Unlike(u32, Record),
-    /// The path that comes to the return at this position is not settled: its verdict is not known, or some comparison on the way
-    /// did not tell all that it asked.
+    /// The path that comes to the return at this position is not settled. Its verdict is not known, or some comparison on the way did not
+    /// tell all that it asked.
     Unsettled(u32),
     /// The paths are too many or too long for a certificate.
     TooLarge,

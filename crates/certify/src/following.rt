@@ -98,7 +98,7 @@ fn split(paths: &mut Paths, from: Place, cut: Cut) -> Result<Kind, PathsError>
 }
 
 // The node of a place at a return of this verdict: what is known is cut until the profile is settled. A record on which the
-// filter is seen to be wrong ends that; and if all words were cut, the one that is left is such a record, if it comes there.
+// filter is seen to be wrong ends that. If all words were cut, the one record that is left is such a record, if it comes there.
 fn at_return(
     paths: &mut Paths,
     profile: &Profile,
@@ -366,19 +366,19 @@ fn follow_all(
     }
 }
 
-/// The certificate that follows each path of a filter: it keeps each rule of the checker. What an error tells is so: a record that
-/// it carries is one on which the filter is wrong, whatever the filter computes. Of a filter of which each comparison tells all that
-/// it asks, an error tells such a record, or of memory, or of the format's limits.
+/// The certificate that follows each path of a filter: it keeps each rule of the checker. What an error reports is so. A record that it
+/// carries is one on which the filter is wrong, whatever the filter computes. If each comparison tells all that it asks, an error reports
+/// such a record, or a lack of memory, or the format's limits.
 pub fn by_paths(
     alloc: Global,
     profile: &Profile,
     program: &Accepted<'_>,
 ) -> Result<Vec<u8>, PathsError>
     ensures valid { IfOk result (λ bytes. IsValidCertificate profile.now (accepted_insns program.now) bytes.items) }
-    // A record that is told convicts the filter.
+    // A record that is returned is a counterexample to the filter.
     ensures truly { IfErr result (TellsTruly profile.now (accepted_insns program.now)) }
-    // A filter of which each comparison tells all that it asks is certified, or told to be wrong, if memory and the format have
-    // room for it. Each filter that compares steadily is one.
+    // A filter of which each comparison tells all that it asks is certified, or reported to be wrong. This needs room in memory
+    // and in the format. Each filter that compares steadily is such a filter.
     ensures told { IsTelling (accepted_insns program.now)
         → IfErr result (TellsWrong profile.now (accepted_insns program.now)) }
     ensures steady { IsSteady (accepted_insns program.now) 0 Nothing

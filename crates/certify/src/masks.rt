@@ -1,8 +1,8 @@
 //! Where what is known is cut at one bit of a mask.
 //!
-//! That a word is not one number under a mask, and not another one under the next, may leave no number together, though none of these
-//! contradicts another. So a bit is told that such a mask has and of which nothing is known, and each of them becomes a question of
-//! fewer bits.
+//! A word may be known not to be one number under a mask, and not another one under the next. Together these facts may leave no number,
+//! though none of them contradicts another. So a cut is made at a bit that such a mask has and of which nothing is known. Each of the facts
+//! becomes a question of fewer bits.
 
 ghost use Rattle.std.specs.Prelude.{◌≡◌, None};
 ghost use Rattle.certify.specs.inner.Plain.{IsWhole};
@@ -36,7 +36,7 @@ fn told_bits(known: &Chain<'_>, word: u8) -> Told {
     told
 }
 
-// The bits that decide whether a word is a number under a mask: none where it is known that it is not, or where no bit is left.
+// The bits that decide whether a word is a number under a mask. There are none if it is known that it is not, or if no bit is left.
 fn free_bits(told: Told, mask: u32, datum: u32) -> u32 {
     if told.mask & mask & (told.datum ^ datum) != 0 {
         return 0;
@@ -49,7 +49,8 @@ fn lowest(bits: u32) -> u32 {
     bits & bits.wrapping_neg()
 }
 
-/// Where a word is cut at one bit: of the mask of which the fewest bits are left, under which the word is known not to be a number.
+/// Where a word is cut at one bit. The bit is of a mask under which the word is known not to be a number. It is the mask of which the
+/// fewest bits are left.
 pub(crate) fn cut_of_mask(known: &Chain<'_>) -> Option<Cut> {
     let mut best: Option<(u8, u32)> = None;
     let mut at = known.start();
@@ -95,8 +96,8 @@ fn bit_lacked(a: AVal) -> Option<(u8, u32)>
     None
 }
 
-/// Where a word is cut before A is compared by order: at the one bit of it that A lacks, if nothing is known of that. Behind the cut
-/// the comparison tells all that it asks.
+/// Where a word is cut before A is compared by order. It is cut at the one bit of it that A lacks, if nothing is known of that. Behind the
+/// cut the comparison tells all that it asks.
 pub(crate) fn cut_before(known: &Chain<'_>, a: AVal, insn: &Insn) -> Option<Cut>
     ensures { IsWhole a → result ≡ None }
 {

@@ -21,7 +21,7 @@ use cert_form::{ChainNode, Claim, FormError, Kind, MAX_LITERALS, MAX_NODES, writ
 use cert_state::Lit;
 use std::alloc::{AllocError, Global};
 
-/// The places of all paths, each before those that it leads to, and what the nodes of the first ones do; and the entries of
+/// The places of all paths, each before those that it leads to, and what the nodes of the first ones do. Also the entries of
 /// the chains that say what is known.
 #[derive(Drop)]
 pub(crate) struct Paths {

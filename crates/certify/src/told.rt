@@ -69,7 +69,7 @@ fn told_record(known: &Chain<'_>) -> Result<Record, Cut>
     })
 }
 
-// Where a word is cut that may be one number alone, which is not stated: what is known of its bits may exclude that one too.
+// Where a word is cut that may be one number alone, which is not stated. What is known of its bits may exclude that one too.
 fn cut_of_point(known: &Chain<'_>) -> Option<Cut> {
     for word in 0..16_u8 {
         if let Some((low, high)) = range(known, word)
@@ -82,8 +82,9 @@ fn cut_of_point(known: &Chain<'_>) -> Option<Cut> {
     None
 }
 
-/// Where what is known is cut in two: where a machine, a rule or a condition is not settled, then at a bit of a mask, then where a
-/// word may be one number alone, and else anywhere. There is no such place only where each word of the record is stated, which is given then.
+/// Where what is known is cut in two. The first choice is where a machine, a rule or a condition is not settled. Then comes a bit of a
+/// mask, then a word that may be one number alone, and else anywhere. There is no such place only if each word of the record is stated.
+/// Then the record is returned.
 pub(crate) fn told_or_cut(profile: &Profile, known: &Chain<'_>) -> Result<Record, Cut>
     ensures stated { IfOk result (λ call. AreStated (literals known.now.entries.now known.now.number) (words call)) }
     // A profile without conditions is cut between calls.

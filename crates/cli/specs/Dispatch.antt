@@ -103,8 +103,8 @@ StopsAtLog folder logs (CannotRead name) = BreaksAt folder logs name.now
 StopsAtLog folder logs OutOfMemory = Unit {0}
 StopsAtLog folder logs other = ⊥
 
--- The exit status: 0 if the answer is yes or it was done, 1 if it is no. 4 if what was given is refused, and 2 or 3 if the program
--- stopped.
+-- The exit status. It is 0 if the answer is yes or it was done, and 1 if it is no. It is 4 if what was given is refused, and 2 or 3 if the
+-- program stopped.
 abbrev pub exit_status : Result Bool Stop → ℕ
 exit_status (Ok true) = 0
 exit_status (Ok false) = 1
@@ -160,8 +160,8 @@ AskedChanges given = OfAsked TellsChanges (is_json given.0) given
 abbrev pub AskedRefusal : Given → Type 0
 AskedRefusal given = OfAsked TellsRefusal (is_json given.0) given
 
--- What is on standard error: if the answer is yes, nothing but changes; if it is no, these and an explanation; if the program stopped, the
--- line that says why.
+-- What is on standard error. If the answer is yes, it is nothing but changes. If it is no, it is these and an explanation. If the program
+-- stopped, it is the line that says why.
 abbrev pub Tells : {E : Type 0} → (E → Option (List ℕ)) → (E → Failures) → E → E → List (List ℕ) → Given → Result Bool Stop
     → Type 0
 Tells held failures old new arguments given (Ok true) = AskedChanges given ⊎ (new ≡ old)
@@ -328,7 +328,8 @@ module _ {O : Type 0} (held : O → Option (List ℕ)) (failures : O → Failure
       (logs : List (List ℕ)) × (unused : Bool) × NamesLogs words logs unused
       × AnswersTold (bundle ∷ logs) (IsReplayed native unused logs) result
 
-  -- What `learn` writes of logs: nothing where it stops at one; or what is told of their bytes, which is the profile if it was done.
+  -- What `learn` writes of logs. It writes nothing if it stops at one. Or it writes what is told of their bytes, which is the profile if it
+  -- was done.
   abbrev pub AnswersLogs : Arch → Bool → List (List ℕ) → List (List ℕ) → Option Runtime → Otherwise → Result Bool Stop → Type 0
   AnswersLogs native as_bundle groups logs runtime otherwise result =
       ((stop : Stop) × StopsAtLog folder logs stop × (result ≡ Err stop) × (new ≡ old))
@@ -519,8 +520,8 @@ module _ {I O : Type 0} (left : I → Option (List ℕ)) (given : I → Failures
   abbrev pub Does : Given → Result Bool Stop → Type 0
   Does asked result = IsNotBegun left given held taken folder input input' out out' result ⊎ DoesAsked (is_json asked.0) asked result
 
--- What `certify` tells where its answer is no: nothing on standard error, or on standard output the line of a call record and on
--- standard error an explanation of this very record.
+-- What `certify` tells if its answer is no. There is nothing on standard error. Or standard output has the line of a call record, and
+-- standard error has an explanation of this very record.
 module _ {O E : Type 0} (held : O → Option (List ℕ)) (taken : O → Failures) (shown : E → Option (List ℕ)) (dropped : E → Failures)
     (folder : Option Folder) (out out' : O) (err err' : E) where
   abbrev pub ExplainsRecord : Arch → List ℕ → Result Bool Stop → Type 0
@@ -563,8 +564,8 @@ module _ {O E : Type 0} (held : O → Option (List ℕ)) (taken : O → Failures
   ExplainsWhy command p (Ok done) = ExplainsBy command p (Ok done)
   ExplainsWhy command p (Err stop) = Unit {0}
 
--- The program did what a command asks for: its outcome, as the exit status and standard error tell it, and behind a no or a refusal lines
--- on files that are no bundles.
+-- The program did what a command asks for. This is its outcome, as the exit status and standard error tell it. Behind a no or a refusal are
+-- lines on files that are no bundles.
 pub record Answers {I O E : Type 0} (left : I → Option (List ℕ)) (given : I → Failures) (held : O → Option (List ℕ))
     (taken : O → Failures) (shown : E → Option (List ℕ)) (dropped : E → Failures) (folder : Option Folder)
     (input input' : I) (out out' : O) (err err' : E) (arguments : List (List ℕ)) (command : Given) (status : ℕ) : Type 0 where

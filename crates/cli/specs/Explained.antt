@@ -58,7 +58,7 @@ TellsStub shown dropped err err' native filter rest answered whole =
     WritesSome shown dropped err err' (stub_text (family_of native) (length filter - length rest) answered whole)
 
 -- What was written of a filter behind a stub. On standard error are the calls that this very stub answers, and whether what was written
--- is of the whole filter; behind them nothing, or an explanation of the very record whose line was written.
+-- is of the whole filter. Behind them is nothing, or an explanation of the very record whose line was written.
 pub record TellsBehind {O E : Type 0} (held : O → Option (List ℕ)) (failures : O → Failures) (out out' : O)
     (shown : E → Option (List ℕ)) (dropped : E → Failures) (err err' : E) (native : Arch) (bundle filter : List ℕ)
     (result : Result Bool WriteFault) : Type 0 where
@@ -90,7 +90,7 @@ WritesFound held failures out out' native bundle filter rest answered whole all 
     ((all ≡ []) × WritesBehind held failures out out' native bundle filter rest answered whole result)
     ⊎ ((found : Conviction) × AreFoundBehind native bundle filter answered whole found all × WritesLines held failures out out' all result)
 
--- The same of all records that are found: on standard error are the calls that the stub answers, and behind them an explanation of each
+-- The same of all records that are found. On standard error are the calls that the stub answers. Behind them is an explanation of each
 -- record whose line was written.
 pub record TellsAllBehind {O E : Type 0} (held : O → Option (List ℕ)) (failures : O → Failures) (out out' : O)
     (shown : E → Option (List ℕ)) (dropped : E → Failures) (err err' : E) (native : Arch) (bundle filter : List ℕ)

@@ -42,8 +42,8 @@ abbrev pub IsUnread : Option Folder → List ℕ → FileFault → Type 0
 IsUnread folder name CannotRead = CannotBeRead folder name
 IsUnread folder name OutOfMemory = Unit {0}
 
--- What is read of a file that is refused by its length alone where it has more than so many bytes: all of it; or, of a longer
--- one, its first bytes, more than so many, and a multiple of eight is left out.
+-- What is read of a file that is refused by its length alone if it has more than so many bytes. It is all of the file. Or, of a
+-- longer one, it is its first bytes, more than so many, and a multiple of eight is left out.
 pub record IsEnough (most : ℕ) (file bytes : List ℕ) : Type 0 where
   pub rest : List ℕ
   pub split : file ≡ bytes ++ rest

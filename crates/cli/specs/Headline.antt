@@ -1,7 +1,7 @@
--- THE HEADLINE. Where the checker says yes to a profile, a filter and a certificate, the kernel accepts the filter and its
--- verdict on every call record is the one that the profile says. So, for every list of lifecycle commands and process
--- events, the replies are those of the kernel machine whose first judge for each container is its profile, and no call that
--- the profile refuses is carried out. (By a verdict that is no stricter than NOTIFY it refuses none that a listener continues.)
+-- THE HEADLINE. Suppose that the checker says yes to a profile, a filter and a certificate. Then the kernel accepts the filter,
+-- and its verdict on every call record is the one that the profile says. So this holds for every list of lifecycle commands and
+-- process events. The replies are those of the kernel machine whose first judge for each container is its profile. No call that
+-- the profile refuses is carried out. By a verdict that is no stricter than NOTIFY it refuses none that a listener continues.
 --
 -- It begins at the rules of the checker, and at what calls tell. `IsFinding`, of Yes, is told by `check_line` where it writes that line,
 -- and by `certify_bundle` where it writes a certificate; `IsRun`, by programs, by `Runtime::run`; `HasAnswered` by `run_bundles` where it
@@ -53,9 +53,9 @@ abbrev pub NameGives : Arch → List (List ℕ) → List ℕ → Option Checked 
 NameGives native texts name (Some given) = IsFilterOf native texts name given
 NameGives native texts name None = (k : ℕ) → k < length texts → name ≢ name_of (k + 1)
 
--- The answer to a script over the texts of bundles. Each of its lines is a command or none, in which a name gives the filter
--- of its text; and to each line it has a line: that it is no command, or the reply of the machine whose first judge for each
--- container is the profile that the text means.
+-- The answer to a script over the texts of bundles. Each line of the script is a command or none, in which a name gives the
+-- filter of its text. To each line the answer has a line. This says that it is no command. Or it is the reply of the machine
+-- whose first judge for each container is the profile that the text means.
 pub record IsAnswerTo (native : Arch) (texts : List (List ℕ)) (script answer : List ℕ) : Type 0 where
   pub bundles : Bundles
   pub native_is : bundles.native ≡ native

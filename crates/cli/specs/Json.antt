@@ -58,7 +58,7 @@ kept_stop (Read line) = Read line
 kept_stop OutOfMemory = OutOfMemory
 kept_stop Refused = Refused
 
--- the objects of an answer that the command gave, and of one that what was given is refused; else the program stops, and none is written
+-- The objects of an answer that the command gave, and of one that what was given is refused. Else the program stops, and none is written.
 abbrev pub WritesObjects : {O : Type 0} → (O → Option (List ℕ)) → (O → Failures) → O → O → Command → List ℕ → List ℕ → Result Bool Stop
     → Result Bool Stop → Type 0
 WritesObjects held failures old new command name answer (Ok true) result =

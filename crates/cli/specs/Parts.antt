@@ -34,8 +34,8 @@ abbrev pub first : List Text → Option Text
 first [] = None
 first (argument ∷ others) = Some argument
 
--- The arguments in the order of the row: the machine that the first calls; the first, if there is one; the first seven; all but the first;
--- and all but the first two.
+-- The arguments in the order of the row: the machine that the first calls, and the first, if there is one. Then the first seven, all but
+-- the first, and all but the first two.
 pub record Parts : Type 0 where
   pub native : Arch
   pub first : Option Text

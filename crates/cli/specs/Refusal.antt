@@ -2,7 +2,8 @@
 use Rattle.std.specs.Prelude.{ℕ, ◌||◌, Bool, nat_eq, List, codes}
 use Rattle.std.specs.List.{starts_with}
 
--- what was given could not be read, as the first words of the answer say: a profile, a filter, a listing, a call, logs, lines, counts
+-- What was given could not be read, as the first words of the answer say. It is a profile, a filter, a listing, a call, logs, lines or
+-- counts.
 abbrev pub is_refusal : List ℕ → Bool
 is_refusal bytes =
     starts_with nat_eq bytes (codes "refused profile ") || (starts_with nat_eq bytes (codes "refused view ")

@@ -1,4 +1,5 @@
--- The lines on standard error behind a no or a refusal: what a file is that is read as a bundle, but is neither a bundle nor a section.
+-- The lines on standard error behind a no or a refusal. They say what a file is that is read as a bundle, but is neither a bundle nor a
+-- section.
 use Rattle.std.specs.Prelude.{ℕ, ◌≡◌, ◌⊎◌, List, [], ◌∷◌, Option, Some, None, Result, Ok, Err, true, false, Bool, codes, take}
 use Rattle.std.specs.Prelude.{if◌then◌else◌}
 use Rattle.std.specs.Str.{bytes_eq}
@@ -39,7 +40,7 @@ bundle_names Learn p = profile_in (from_in p.from_two) p
 bundle_names other p = []
 
 module _ {E : Type 0} (held : E → Option (List ℕ)) (failures : E → Failures) where
-  -- The line that says what a text is that is neither a bundle nor a section was written, as far as the sink took it; or nothing was.
+  -- The line that says what a text is that is neither a bundle nor a section was written, as far as the sink took it. Or nothing was.
   abbrev pub MayRemark : Arch → E → E → Type 0
   MayRemark native old new =
       (new ≡ old) ⊎ ((bytes : List ℕ) × (line : List ℕ) × IsRemark native bytes (Some line) × Reports held failures old new line)

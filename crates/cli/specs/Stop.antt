@@ -43,7 +43,7 @@ name_line name = codes "ccell: cannot read " ++ name ++ line_feed ∷ []
 abbrev pub Reports : {S : Type 0} → (S → Option (List ℕ)) → (S → Failures) → S → S → List ℕ → Type 0
 Reports held failures old new line = (written : Result (Unit {0}) WriteFault) × Writes held failures old new line written
 
--- nothing was written; or, if the first argument is the name of a command of our own, a text, as far as the sink took it
+-- Nothing was written. Or, if the first argument is the name of a command of our own, a text was, as far as the sink took it.
 abbrev pub MayAdvise : {S : Type 0} → (S → Option (List ℕ)) → (S → Failures) → S → S → List (List ℕ) → Type 0
 MayAdvise held failures old new arguments =
     (new ≡ old) ⊎ (IsOurs arguments × ((text : List ℕ) × Reports held failures old new text))

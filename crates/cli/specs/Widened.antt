@@ -26,7 +26,7 @@ asks_else (word ∷ words) = bytes_eq word (codes "else") || asks_else words
 abbrev pub rest_of : List (List ℕ) → Otherwise → Otherwise
 rest_of words otherwise = if asks_else words then otherwise else Kill
 
--- A profile that is learned from the texts and that of the file together: each call record gets the laxest answer of the two, and of
+-- A profile that is learned from the texts and that of the file together. Each call record gets the laxest answer of the two, and of
 -- equally strict ones that of the texts.
 pub record IsWidened (native : Arch) (file : List ℕ) (texts : List (List ℕ)) (runtime : Option Runtime) (otherwise : Otherwise)
     (made : List ℕ) : Type 0 where

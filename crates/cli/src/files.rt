@@ -36,8 +36,8 @@ pub trait Files {
         ensures ok { IfOk result (λ opened. IsOpened (folder self.old) name.now (Self.Opened.left opened)) }
         ensures err { IfErr result (λ fault. IsUnread (folder self.old) name.now fault) };
 
-    /// The bytes of a file that is refused by its length alone where it has more than so many, a multiple of eight. Of
-    /// a longer one it may be the first bytes: more than so many, and as many over a multiple of eight as the file has.
+    /// The bytes of a file that is refused by its length alone where it has more than so many, a multiple of eight. Of a longer
+    /// one it may be the first bytes. They are more than so many, and as many over a multiple of eight as the file has.
     fn read_up_to(&mut self, alloc: Global, name: &str, most: u32) -> Result<Vec<u8>, FileFault>
         ensures same { folder self.new ≡ folder self.old }
         ensures ok { IfOk result (λ bytes. HasEnough most (folder self.old) name.now bytes.items) }

@@ -1,9 +1,9 @@
 //! The law of the program.
 ghost use Rattle.cli.specs.Headline.{Headline};
 
-/// Where the checker says yes, the kernel accepts the filter and its verdict on every call record is the one that the
-/// bundle's profile says; so the replies of a script are those of the kernel machine whose first judge for each container
-/// is its profile, and no call that the profile refuses is carried out.
+/// If the checker says yes, the kernel accepts the filter, and its verdict on every call record is the one that the bundle's
+/// profile says. So the replies of a script are those of the kernel machine whose first judge for each container is its
+/// profile. No call that the profile refuses is carried out.
 pub fn headline()
     ensures { Headline }
 {}

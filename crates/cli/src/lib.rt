@@ -1,5 +1,5 @@
-//! The program `ccell` over arguments, files and streams that are handed in, so that tests can stand in for them: which command
-//! its arguments are, and what it does. What it judges and makes is `maker`'s, whose public names are found here too.
+//! The program `ccell` over arguments, files and streams that are handed in, so that tests can stand in for them. This is which
+//! command its arguments are, and what it does. What it judges and makes is `maker`'s, whose public names are found here too.
 #![tactic(auto)]
 
 mod adapting;

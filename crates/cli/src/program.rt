@@ -347,8 +347,8 @@ fn carry_out<'a, F: Files, I: Source, O: Sink, E: Sink>(
     }
 }
 
-/// Runs the program on the arguments after its name, and returns the exit status: 0 done, 1 no, 2 a fault of the command line. 3: a file,
-/// a stream or memory failed. 4: what was given cannot be read.
+/// Runs the program on the arguments after its name, and returns the exit status. It is 0 for done, 1 for no, and 2 for a fault of the
+/// command line. It is 3 if a file, a stream or memory failed. It is 4 if what was given cannot be read.
 pub fn dispatch<F: Files, I: Source, O: Sink, E: Sink>(
     alloc: Global,
     arguments: &[&str],
@@ -365,7 +365,8 @@ pub fn dispatch<F: Files, I: Source, O: Sink, E: Sink>(
     // `check` ends with 0 only if the filter is right for the bundle, and `run` only if the script was answered.
     ensures check { (machine bundle filter cert : List ℕ) → IsCommandLine arguments.entry.now (the.Check, machine ∷ bundle ∷ filter ∷ cert ∷ [])
         → result ≡ 0 → AreRight (F.folder files.old) (native_of machine) bundle filter }
-    // So does `certify`; with `runc`, and with `all` behind it, the filter is right, or is so but for calls that a stub in front of it answers.
+    // So does `certify`. With `runc`, and with `all` behind it, the filter is right, or is so but for calls that a stub in front of it
+    // answers.
     ensures certify { (machine bundle filter : List ℕ) → IsCommandLine arguments.entry.now (the.Certify, machine ∷ bundle ∷ filter ∷ [])
         → result ≡ 0 → AreRight (F.folder files.old) (native_of machine) bundle filter }
     ensures certify_runc { (machine bundle filter : List ℕ)
@@ -381,8 +382,8 @@ pub fn dispatch<F: Files, I: Source, O: Sink, E: Sink>(
         → AreRightAtLeast (F.folder files.old) (native_of machine) bundle filter (leave_of (parts_in (machine ∷ bundle ∷ filter ∷ words))) }
     ensures run { (machine : List ℕ) (bundles : List (List ℕ)) → IsCommandLine arguments.entry.now (the.Run, machine ∷ bundles) → result ≡ 0
         → HasRun (F.folder files.old) (native_of machine) bundles (I.left input.old) (O.held out.old) (O.held out.new) }
-    // Arguments that are no command are a fault of the command line, unless the memory to read them is refused: no file and no input
-    // is read, no output is written, and standard error says so.
+    // Arguments that are no command are a fault of the command line, unless the memory to read them is refused. No file and no input is
+    // read, no output is written, and standard error says so.
     ensures misuse { NoCommandLine arguments.entry.now → TellsMisuse E.held E.failures err.old err.new (texts arguments.entry.now) result }
     ensures unopened { NoCommandLine arguments.entry.now → files.new ≡ files.old }
     ensures unread { NoCommandLine arguments.entry.now → input.new ≡ input.old }

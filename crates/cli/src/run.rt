@@ -99,8 +99,8 @@ fn run_checked<'a, 'b, I: Source, O: Sink>(
 }
 
 /// Answers each line of a script by a line, with the checked filters of bundles, which are named `b1`, `b2` and so on.
-/// Their texts are read for a native machine. All of them are compiled, certified and checked before the first line is
-/// read; where one is refused, the line that says so of the first such is written, and the answer is false.
+/// Their texts are read for a native machine. All of them are compiled, certified and checked before the first line is read. If
+/// one is refused, the line that says so of the first such is written, and the function returns false.
 pub fn run_bundles<'a, I: Source, O: Sink>(
     alloc: Global,
     native: Arch,

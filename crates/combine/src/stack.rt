@@ -40,8 +40,8 @@ fn bundles_of(alloc: Global, native: Arch, filters: &[Vec<u8>]) -> Result<Vec<Ve
     Ok(bundles)
 }
 
-/// The bundle whose profile says of each call record the verdict that a stack of filters gives it, which were loaded in this order; or why
-/// there is none.
+/// The bundle whose profile says of each call record the verdict that a stack of filters gives it, or why there is none. The filters were
+/// loaded in this order.
 pub fn combine_filters(
     alloc: Global,
     native: Arch,

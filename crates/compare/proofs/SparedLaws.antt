@@ -102,7 +102,7 @@ turned a b (inr (inr h)) = inr (inr (h.1, h.0))
 abbrev no_calls : Numbers
 no_calls = from_to 0x80000000 0xbfffffff
 
--- the numbers of a stretch are of the same machines, all or none of them are no call, and all or none of them are 0
+-- The numbers of a stretch are of the same machines. All or none of them are no call, and all or none of them are 0.
 pub record AreEven (a b : ℕ) : Type 0 where
   pub alike : AreAlike a b
   pub calls : IsWithin a no_calls → IsWithin b no_calls

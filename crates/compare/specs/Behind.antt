@@ -55,17 +55,17 @@ abbrev pub MeansRight : Arch → List ℕ → List ℕ → List Calls → Type 0
 MeansRight native bundle filter answered =
     (policy : Policy) × IsBundle native bundle policy × IsRightBehind policy (insns_of filter) answered
 
--- What is judged, and whether it is asked of the whole filter. Where the rest is asked about, it is a record that convicts the whole
--- filter; or so of the rest and no such record, and then the bundle spares the calls that the stub answers.
+-- What is judged, and whether it is asked of the whole filter. If the rest is asked about, it is a counterexample to the whole filter. Or
+-- it is judged of the rest and is no counterexample, and then the bundle spares the calls that the stub answers.
 abbrev pub IsJudgedBehind : Arch → List ℕ → List ℕ → List ℕ → List Calls → Bool → Result Evidence Unready → Type 0
 IsJudgedBehind native bundle filter rest answered true judged = IsJudgement native bundle filter judged
 IsJudgedBehind native bundle filter rest answered false judged =
     (IsJudgement native bundle filter judged × IsFound judged)
     ⊎ (IsJudgement native bundle rest judged × IsNoConviction judged × MeansSparing native bundle answered)
 
--- What is written. If the whole filter is asked about: what `ccell certify` writes of it. If the rest is: a record that convicts the
--- whole filter; a certificate with which the checker says yes of the rest, and then the whole filter is right but for the stub's calls;
--- or the line that says why the rest is not decided, and then the bundle spares these calls.
+-- What is written. If the whole filter is asked about: what `ccell certify` writes of it. If the rest is: a counterexample to the whole
+-- filter. Or it is a certificate with which the checker says yes of the rest. Then the whole filter is right but for the stub's calls. Or
+-- it is the line that says why the rest is not decided, and then the bundle spares these calls.
 abbrev pub WritesBehind : {S : Type 0} → (S → Option (List ℕ)) → (S → Failures) → S → S → Arch → List ℕ → List ℕ → List ℕ
     → List Calls → Bool → Result Bool WriteFault → Type 0
 WritesBehind held failures old new native bundle filter rest answered true result =

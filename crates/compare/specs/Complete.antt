@@ -54,8 +54,8 @@ IsCovered p q changes crowded token nr direction =
     AreLikeOnCall p q token nr direction
     ⊎ ((list_any (is_with token direction) (told_of changes) ≡ true) ⊎ (list_any (is_crowded_with token) crowded ≡ true))
 
--- Each call that differs is told in each direction: of those that a rule of one of the profiles is for, by a record of the call itself;
--- of all others by a record with their token. Only crowded calls are not settled.
+-- Each call that differs is reported in each direction. Those that a rule of one of the profiles is for are reported by a record of the
+-- call itself. All others are reported by a record with their token. Only crowded calls are not settled.
 pub record AreComplete (p q : Policy) (changes : List Change) (crowded : List Crowded) : Type 0 where
   pub of_first : (token nr : ℕ) (direction : Direction) → list_any (is_for token nr) p.rules ≡ true
       → IsAnswered p q changes crowded token nr direction

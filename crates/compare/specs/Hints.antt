@@ -30,7 +30,7 @@ IsUnpassed p = NothingGetsPast p ⊎ IsLeftOpen p
 abbrev pub most_hinted : ℕ
 most_hinted = 1048576
 
--- why a bundle gets no hint: it is longer, it is refused for a fault that it has, or its profile is not passed, as far as it is decided
+-- Why a bundle gets no hint. It is longer, or it is refused for a fault that it has. Or its profile is not passed, as far as it is decided.
 pub data IsUnhinted (native : Arch) (bundle : List ℕ) : Type 0 where
   long : most_hinted < length bundle → IsUnhinted native bundle
   refused : (error : ProfileError) → error ≢ OutOfMemory → IfSome (fault_of error) (Breaks bundle native) → IsUnhinted native bundle

@@ -17,8 +17,8 @@ use Rattle.compare.specs.Stub.{IsAnswered, enosys}
 abbrev pub is_mild : ℕ → Bool
 is_mild v = not (is_through v) && (not (action v == kill_process) && not (action v == kill_thread))
 
--- Numbers with the token of x86-64 that are no call of any machine: x86-64's own are below them, and those of x32 have the bit
--- 0x40000000 (the kernel's arch/x86/entry/common.c, do_syscall_64).
+-- Numbers with the token of x86-64 that are no call of any machine. The own ones of x86-64 are below them. Those of x32 have
+-- the bit 0x40000000 (the kernel's arch/x86/entry/common.c, do_syscall_64).
 abbrev pub IsNoCall : ℕ → ℕ → Type 0
 IsNoCall token nr = (token ≡ x86_64_token) × IsWithin nr (from_to 0x80000000 0xbfffffff)
 

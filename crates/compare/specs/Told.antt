@@ -45,7 +45,8 @@ pub record IsRefused (native : Arch) (bundle : List ℕ) (place : ℕ) (told : T
   pub stands : IfSome (fault_of fault) (Breaks bundle native)
   pub tells : TellsRefusal place fault told
 
--- what is told of two profiles is so: of such as are the same but for the order of their rules, that they are the same
+-- What is told of two profiles is so. Of such as are the same but for the order of their rules, it is told that they are the
+-- same.
 pub record AreTold (atmost : Bool) (family : Family) (p q : Policy) (told : Told) : Type 0 where
   pub comparison : Comparison
   pub is : IsComparison family p q comparison

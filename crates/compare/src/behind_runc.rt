@@ -1,4 +1,4 @@
-//! A filter of a container that runc started: the stub that runc puts in front of it, and what is judged of the filter behind it.
+//! A filter of a container that runc started. Here are the stub that runc puts in front of it, and what is judged of the filter behind it.
 mod all;
 mod behind;
 mod judged;

@@ -1,6 +1,6 @@
-//! What two profiles, or a filter and a profile, have unlike, told in plain sentences: calls of which they do not say the same, and
-//! whether one allows no more than the other. Also what is judged of a filter behind runc's stub. [`lint`] has the calls that get past a
-//! profile.
+//! What two profiles, or a filter and a profile, have unlike, told in plain sentences. These are calls of which they do not say the same,
+//! and whether one allows no more than the other. Also what is judged of a filter behind runc's stub. [`lint`] has the calls that get past
+//! a profile.
 #![tactic(auto)]
 
 mod behind_runc;

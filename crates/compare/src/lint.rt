@@ -1,5 +1,5 @@
-//! Calls that get past a profile. It refuses a call, and lets through another one that is the same to the kernel: it compares bits of an
-//! argument that the kernel does not read.
+//! Calls that get past a profile. It refuses a call, and lets through another one that is the same to the kernel. For it compares bits of
+//! an argument that the kernel does not read.
 mod decided;
 mod hints;
 mod pairs;

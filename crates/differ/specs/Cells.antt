@@ -18,7 +18,7 @@ IsMet conds list u = (v : ℕ) × Contains list v × AreAlike conds u v
 abbrev pub AreApart : List Cond → List ℕ → Type 0
 AreApart conds list = (i j : ℕ) → i < j → j < length list → AreAlike conds (slice_index list i) (slice_index list j) → ⊥
 
--- Numbers of so many bits, one for each way in which the conditions can answer: no two are answered alike, and each number is
+-- Numbers of so many bits, one for each way in which the conditions can answer. No two are answered alike, and each number is
 -- answered as one of them is.
 pub record AreCells (conds : List Cond) (bits : ℕ) (list : List ℕ) : Type 0 where
   pub within : All (λ u. u < 2 ^ bits) list

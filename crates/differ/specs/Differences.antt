@@ -45,8 +45,8 @@ pub record AreTold (p q : Policy) (direction : Direction) (d : Differences) : Ty
   pub found : All (λ f. IsFound p q f.call.arch f.call.nr direction f) d.found.items
   pub crowded : All (λ call. AreCrowded p q call.token call.nr) d.crowded.items
 
--- Each call that differs is told, in each direction: of those that are asked about, and of those that a rule of one of the profiles is
--- for, by a record of the call itself; of all others by a record with their token. Only crowded calls are not settled.
+-- Each call that differs is reported, in each direction. A call that is asked about, or that a rule of one of the profiles is for, is
+-- reported by a record of itself. All others are reported by a record with their token. Only crowded calls are not settled.
 pub record AreAll (p q : Policy) (asked : List Call) (d : Differences) : Type 0 where
   pub told : AreTold p q Any d
   pub of_asked : (token nr : ℕ) (direction : Direction) → is_named asked token nr ≡ true → IsAnswered p q d token nr direction

@@ -1,5 +1,5 @@
-//! On which call records two profiles say unlike verdicts, decided for each call: by numbers that stand for all others where the
-//! conditions on an argument are asked.
+//! On which call records two profiles say unlike verdicts, decided for each call. Where the conditions on an argument are asked,
+//! it is decided by numbers that stand for all others.
 #![tactic(auto)]
 
 mod alike;

@@ -35,7 +35,7 @@ impl<T: Drop> From<AllocFailed<T>> for Unlisted {
     }
 }
 
-/// Numbers of so many bits, one for each way in which these conditions can answer: each number of so many bits is answered as one
+/// Numbers of so many bits, one for each way in which these conditions can answer. Each number of so many bits is answered as one
 /// of them is.
 pub fn cells(alloc: Global, conds: &[Cond], bits: u32) -> Result<Vec<u64>, Unlisted>
     requires { bits ≤ 64 }

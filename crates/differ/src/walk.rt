@@ -84,8 +84,8 @@ fn at_end(
     found_on(first, second, direction, call)
 }
 
-/// The first record of a call on which two profiles differ in a direction, of those that have the first arguments of this one, or
-/// such as the open rules answer alike.
+/// The first record of a call on which two profiles differ in a direction. It is of those that have the first arguments of this
+/// one, or such as the open rules answer alike.
 pub(crate) fn walk(
     alloc: Global,
     first: &Profile,

@@ -19,8 +19,8 @@ abbrev pub IsRead : Arch → List ℕ → Told → Type 0
 IsRead native draft told = told.done ≡ true
     → (told.bytes.items ≡ draft) × (t : Data) × (p : Policy) × IsText draft t × Means t native p
 
--- The bytes are a bundle, and its profile settles the rules that the entries of the draft say: of each record it says what the
--- one of those that match says that the choice names. Beside the entries the profile is what the draft says.
+-- The bytes are a bundle, and its profile settles the rules that the entries of the draft say. Of each record it says what one
+-- of the rules that match says: the one that the choice names. Beside the entries the profile is what the draft says.
 pub record SettlesDraft (native : Arch) (choice : Choice) (draft bytes : List ℕ) : Type 0 where
   pub t : Data
   pub is_text : IsText bytes t

@@ -22,7 +22,7 @@ outranks Looser a b = is_stricter b.word a.word
 outranks Stricter a b = is_stricter a.word b.word
 outranks LikeLibseccomp a b = is_bare a && not (is_bare b)
 
--- Of two rules at the places i and j the first counts: the second does not outrank it, and it outranks the second or stands first.
+-- Of two rules at the places i and j the first counts. The second does not outrank it, and it outranks the second or stands first.
 abbrev pub Precedes : Choice → ℕ → Rule → ℕ → Rule → Type 0
 Precedes choice i a j b = (outranks choice b a ≡ false) × ((outranks choice a b ≡ true) ⊎ (i ≤ j))
 

@@ -52,8 +52,8 @@ edition_of parts =
 unfoldable pub edition_called : List ℕ → Option Kernel
 edition_called text = option_and_then edition_of (split_at 46 text)
 
--- One thing that words ask for: that the bundle may say less, that refusals are logged, which entry counts, an engine, bits of
--- capabilities, a kernel.
+-- One thing that words ask for. It is that the bundle may say less, that refusals are logged, which entry counts, an engine,
+-- bits of capabilities, or a kernel.
 pub data Item : Type 0 where
   Widens : Item
   Logs : Item

@@ -19,8 +19,8 @@ use show::{Doubled, Trimmed, fault_of, without_unread};
 use std::alloc::{AllocError, Global};
 use wording::{Told, refused_profile};
 
-/// What an adapted configuration gives: the bundle, or why there is none; the draft, which is the bundle before overlaps are
-/// settled; and what was changed, a line each.
+/// What an adapted configuration gives. It is the bundle, or why there is none. It is also the draft, which is the bundle
+/// before overlaps are settled, and what was changed, a line each.
 #[derive(Drop)]
 pub struct Adapted {
     pub told: Told,

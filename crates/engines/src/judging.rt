@@ -37,9 +37,9 @@ fn told_if(is_settled: bool, has_same_head: bool, alloc: Global, bundle: String)
     }
 }
 
-/// The bundle that was made of a draft, whose entries may say unlike things of one record, if its profile says of each record
-/// what the one of them says that counts, and has the draft's default verdict and machines. Each rule of the draft gives way to the
-/// one whose place is told for it.
+/// The bundle that was made of a draft, whose entries may say unlike things of one record. It is returned if its profile says of each
+/// record what the one entry says that counts. The profile must also have the draft's default verdict and machines. Each rule of the draft
+/// gives way to the one whose place is told for it.
 pub fn settled(
     alloc: Global,
     native: Arch,

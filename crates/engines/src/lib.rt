@@ -1,6 +1,6 @@
-//! Bundles made of what a container engine hands to its runtime, a `config.json`, of a section `linux.seccomp` by itself, of an
-//! engine's own profile and of a Kubernetes object. Each change is told with its place, and what is made is read before it is
-//! handed out.
+//! Bundles made of what a container engine hands to its runtime, a `config.json`. They are also made of a section
+//! `linux.seccomp` by itself, of an engine's own profile and of a Kubernetes object. Each change is told with its place, and
+//! what is made is read before it is handed out.
 #![tactic(auto)]
 
 mod actions;

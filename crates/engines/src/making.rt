@@ -151,7 +151,7 @@ fn read_over(
     }
 }
 
-// For each rule of a draft the place of the one to which it gives way, and the names that are left out so, which are told.
+// For each rule of a draft the place of the one to which it gives way. Also the names that are left out so. These are told.
 fn giving_way(
     alloc: Global,
     changes: &mut Changes,

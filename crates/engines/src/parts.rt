@@ -1,7 +1,8 @@
 //! The entries that are written for one of a configuration: itself, or one for each of its conditions.
 use crate::place::Place;
 
-/// A written entry, by the one of the configuration for which it stands, and by the condition of that which it has alone, if it does.
+/// A written entry, by the one of the configuration for which it stands. If it has one condition of that entry alone, also by this
+/// condition.
 #[derive(Clone, Copy)]
 pub(crate) struct Part {
     pub(crate) entry: usize,

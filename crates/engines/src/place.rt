@@ -1,8 +1,8 @@
 //! Places in a configuration.
 use crate::text::Text;
 
-/// A place in a configuration: the section, an entry of it, a condition of the entry; a key of one of these, and a member of
-/// the list under the key. The section stands behind `top`, which is empty where it stands by itself.
+/// A place in a configuration: the section, an entry of it, a condition of the entry. Then a key of one of these, and a member
+/// of the list under the key. The section stands behind `top`, which is empty where it stands by itself.
 #[derive(Clone, Copy)]
 pub(crate) struct Place<'a> {
     top: &'static str,

@@ -1,5 +1,5 @@
-//! Overlaps settled: where entries of a bundle say unlike things of one record, which of them counts, and whether a profile says
-//! of each record what the one says that does.
+//! Overlaps settled: if entries of a bundle say unlike things of one record, which of them counts. Also whether a profile says of each
+//! record what the one says that does.
 mod calls;
 mod choice;
 mod covering;

@@ -2,7 +2,8 @@
 use std::alloc::{AllocError, Global};
 use std::fmt::{Display, Write};
 
-/// A text, whether there was memory for all of it, and whether a list or an object has begun in it that has no member yet.
+/// A text, and whether there was memory for all of it. Also, whether a list or an object has begun in it that has no member
+/// yet.
 #[derive(Drop)]
 pub(crate) struct Text {
     text: String,

@@ -15,8 +15,8 @@ pub struct Container {
     pub kernel: Kernel,
 }
 
-/// What is asked: whether the bundle may say less than the configuration, whether refusals are to be logged in place of refused,
-/// which of two entries counts that say unlike things of one call, and for which container an engine's own profile is worked out.
+/// What is asked: whether the bundle may say less than the configuration, and whether refusals are to be logged in place of refused. Also,
+/// which of two entries counts that say unlike things of one call. And for which container an engine's own profile is worked out.
 #[derive(Clone, Copy, Debug, PartialEq, Eq)]
 pub struct Wanted {
     pub may_widen: bool,

@@ -20,7 +20,7 @@ is_always token nr rule = is_of rule token nr && length rule.conds.items == 0
 abbrev pub default_may : Policy → ℕ → ℕ → ℕ → Bool
 default_may p token nr a = action p.default_word == a && not (list_any (is_always token nr) p.rules)
 
--- the action is that of the default or of a rule for the call; of a call of machines that are not listed it is KILL_THREAD
+-- The action is that of the default or of a rule for the call. Of a call of machines that are not listed it is KILL_THREAD.
 abbrev pub may_answer : Policy → ℕ → ℕ → ℕ → Bool
 may_answer p token nr a =
     if list_any (has_call token nr) p.machines

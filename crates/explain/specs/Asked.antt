@@ -1,5 +1,5 @@
--- Which call record command line arguments ask for: by a call and its arguments, as a line of a script does and also by names of
--- constants, or by its bytes.
+-- Which call record command line arguments ask for. They ask for it by a call and its arguments, as a line of a script does and also by
+-- names of constants. Or they ask for it by its bytes.
 use Rattle.std.specs.Prelude.{ℕ, ◌≡◌, ◌==◌, Bool, true, false, List, [], ◌∷◌, ◌++◌, Some, None, Ok, codes}
 use Rattle.std.specs.List.{flat_map, list_any}
 use Rattle.std.specs.Str.{bytes_eq}

@@ -133,8 +133,8 @@ fn call_on(native: Arch, line: &str) -> Option<Record>
     }
 }
 
-/// The record of a call that command line arguments ask for: its name or number, and its arguments, as in a line of a script or by
-/// names of constants.
+/// The record of a call that command line arguments ask for. They give its name or number, and its arguments, as in a line of a script or
+/// by names of constants.
 pub(crate) fn asked(
     alloc: Global,
     native: Arch,

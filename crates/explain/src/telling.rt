@@ -105,8 +105,8 @@ impl Explainer {
         })
     }
 
-    /// The text that explains what the bundle says of a call record: the call, the verdict, why it is said, and of each rule for that
-    /// call whether it matches, and which of its conditions hold.
+    /// The text that explains what the bundle says of a call record: the call, the verdict, and why it is said. Of each rule for that call
+    /// it tells whether it matches, and which of its conditions hold.
     pub fn explanation(&self, alloc: Global, call: &Record) -> Result<String, AllocError>
         ensures { (native : TheArch) (bundle : List ℕ) → Reads native bundle self.now
             → IfOk result (λ text. Explains native bundle call.now (string_bytes text)) }

@@ -90,9 +90,9 @@ fn certified(
     if is_made { DONE } else { REFUSED }
 }
 
-/// Writes a filter for a bundle into `out`, and its length into `count`: 0, and the checker said yes to it. 1: the line is
-/// written that says why there is none. 2: there is no room, and `count` is how much is wanted. 3: there is no memory. 4: there
-/// is no such machine.
+/// Writes a filter for a bundle into `out`, and its length into `count`. Returns 0 if the checker said yes to it. Returns 1 if
+/// there is none, and the line is written that says why. Returns 2 if there is no room, and `count` is how much is wanted.
+/// Returns 3 if there is no memory, and 4 if there is no such machine.
 #[unsafe(no_mangle)]
 pub extern "C" fn ccell_filter_for_bundle(
     alloc: Global,
@@ -114,9 +114,9 @@ pub extern "C" fn ccell_filter_for_bundle(
     }
 }
 
-/// Whether the checker says yes to a filter and a certificate for a bundle: 0, and nothing is written. 1: the line is written
-/// that says what is wrong. 2: there is no room for it, and `count` is how much is wanted. 3: there is no memory. 4: there is no
-/// such machine.
+/// Whether the checker says yes to a filter and a certificate for a bundle. Returns 0 if it does, and nothing is written.
+/// Returns 1 if it does not, and the line is written that says what is wrong. Returns 2 if there is no room for it, and `count`
+/// is how much is wanted. Returns 3 if there is no memory, and 4 if there is no such machine.
 #[unsafe(no_mangle)]
 pub extern "C" fn ccell_check(
     alloc: Global,
@@ -142,9 +142,9 @@ pub extern "C" fn ccell_check(
     }
 }
 
-/// Writes a certificate that a filter answers what a bundle says: 0. 1: the line is written of a call record on which it does
-/// not, or that says why neither is found. 2: there is no room, and `count` is how much is wanted. 3: there is no memory. 4:
-/// there is no such machine.
+/// Writes a certificate that a filter answers what a bundle says, and returns 0. Returns 1 if there is none. Then the line is
+/// written of a call record on which it does not, or that says why neither is found. Returns 2 if there is no room, and
+/// `count` is how much is wanted. Returns 3 if there is no memory, and 4 if there is no such machine.
 #[unsafe(no_mangle)]
 pub extern "C" fn ccell_certify(
     alloc: Global,

@@ -9,8 +9,8 @@ use crate::added::machine_with;
 use crate::answers::written;
 use crate::status::{DONE, NO_CALL, NO_NATIVE, NO_ROOM, NO_TEXT};
 
-/// Writes the number of a machine's call into `number`: 0. 15: the machine has no such call. 4: there is no such machine.
-/// 16: the name is no UTF-8.
+/// Writes the number of a machine's call into `number`, and returns 0. Returns 15 if the machine has no such call.
+/// Returns 4 if there is no such machine, and 16 if the name is no UTF-8.
 #[unsafe(no_mangle)]
 pub extern "C" fn ccell_call_number(machine: u32, name: &[u8], number: &mut u32) -> u32
     ensures done { result ≡ 0 → HasNumber machine name.now number.new }
@@ -34,8 +34,8 @@ pub extern "C" fn ccell_call_number(machine: u32, name: &[u8], number: &mut u32)
     }
 }
 
-/// Writes the name of a machine's call into `out`, and its length into `count`: 0. 15: the machine has no such call. 4: there
-/// is no such machine. 2: there is no room, and `count` is how much is wanted.
+/// Writes the name of a machine's call into `out`, and its length into `count`, and returns 0. Returns 15 if the machine has
+/// no such call, and 4 if there is no such machine. Returns 2 if there is no room, and `count` is how much is wanted.
 #[unsafe(no_mangle)]
 pub extern "C" fn ccell_call_name(
     machine: u32,

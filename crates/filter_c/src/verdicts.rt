@@ -8,8 +8,8 @@ ghost use Rattle.kernel_check.specs.declared.fault.Refused.{Refused};
 use crate::status::{DONE, KERNEL_REFUSES, NO_PROGRAM, NO_RECORD};
 use maker::{Answer, answer_to};
 
-/// Writes the verdict of a filter on a call record of 64 bytes: 0. 12: the record has another length. 13: the filter's bytes
-/// are no program. 14: the kernel refuses the filter.
+/// Writes the verdict of a filter on a call record of 64 bytes, and returns 0. Returns 12 if the record has another length.
+/// Returns 13 if the filter's bytes are no program, and 14 if the kernel refuses the filter.
 #[unsafe(no_mangle)]
 pub extern "C" fn ccell_verdict(filter: &[u8], rec: &[u8], verdict: &mut u32) -> u32
     ensures done { result ≡ 0 → IsAnswer filter.now rec.now (answer.Verdict verdict.new) }

@@ -15,12 +15,12 @@ IsFilter filter = (view_fault filter ≡ None) × IsAccepted (insns_of filter)
 abbrev pub GivesVerdict : List ℕ → List ℕ → ℕ → Type 0
 GivesVerdict r filter v = verdict_of (insns_of filter) r ≡ Some v
 
--- Filters that were loaded in this order give the record verdicts, and this one counts: of the strictest the one that the newest filter
--- gives, which the kernel asks first (seccomp(2)).
+-- Filters that were loaded in this order give the record verdicts, and this one counts. Of the strictest it is the one that the newest
+-- filter gives, which the kernel asks first (seccomp(2)).
 abbrev pub StackGives : List (List ℕ) → List ℕ → ℕ → Type 0
 StackGives filters r v = (vs : List ℕ) × AllZip (GivesVerdict r) filters vs × (v ≡ strictest_of (reverse vs))
 
--- One filter answers as a stack of filters that the kernel accepts: it accepts this one, too, and each call record gets from it the verdict
+-- One filter answers as a stack of filters that the kernel accepts. It accepts this one, too. Each call record gets from it the verdict
 -- that counts, and no other.
 pub record IsFlat (filters : List (List ℕ)) (made : List ℕ) : Type 0 where
   pub stack : All IsFilter filters

@@ -1,7 +1,7 @@
 //! One filter that answers as a stack of filters.
 //!
 //! A process can have several filters. The kernel asks each of them, the newest first, and the strictest verdict counts. Here the filters
-//! are put above one another: where a newer filter returns, the older ones go on, and what they return gives way to what it returned.
+//! are put above one another. Where a newer filter returns, the older ones go on, and what they return gives way to what it returned.
 #![tactic(auto)]
 
 mod above;

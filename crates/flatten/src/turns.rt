@@ -94,8 +94,8 @@ fn passed(area: &mut Vec<Insn>, older: &[Insn], word: u32) -> Result<Turn, Limit
     Ok(Turn::Passes(at))
 }
 
-/// What stands in the place of a return of this word: what the older filters answer in its place, of which the instructions are added to
-/// the area, or the one answer that all of theirs give way to.
+/// What stands in the place of a return of this word. It is what the older filters answer in its place, of which the instructions are
+/// added to the area. Or it is the one answer that all of theirs give way to.
 pub(crate) fn turn_of(area: &mut Vec<Insn>, older: &[Insn], word: u32) -> Result<Turn, Limit>
     requires plain { spec.ArePlain older.now }
     requires area_plain { spec.ArePlain area.old.items }

@@ -11,7 +11,8 @@ use Rattle.json_lines.specs.Lines.{Text, lines_of, parts_by}
 abbrev pub Member : Type 0
 Member = Text × Text
 
--- a mark: the name of a member, and the fixed text that ends it; a member that no text ends goes to the end of the line
+-- A mark: the name of a member, and the fixed text that ends it. A member that no text ends goes to the end of the
+-- line.
 abbrev pub Mark : Type 0
 Mark = Text × Text
 

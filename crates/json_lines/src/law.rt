@@ -11,13 +11,13 @@ ghost use Rattle.json_lines.specs.Lines.{Group, Text, all_lines, ended, groups_o
 ghost use Rattle.json_lines.specs.Objects.{group_object};
 ghost use Rattle.json_lines.specs.Shapes.{Shape, row_of};
 
-/// From what is told of a line the line can be written again: from the shape of that kind with these members, or from the member
-/// that has the line or its bytes.
+/// From what is told of a line the line can be written again. It is written from the shape of that kind with these members, or
+/// from the member that has the line or its bytes.
 pub fn lines_are_kept()
     ensures { (shapes : List Shape) (line : Text) → IsBytes line → TellsOf shapes line (row_of shapes line) }
 {}
 
-/// The groups of an answer have its lines, in order, and these are its text; behind a last line that no line feed ends, one is added.
+/// The groups of an answer have its lines, in order, and these are its text. Behind a last line that no line feed ends, one is added.
 pub fn answers_are_kept()
     ensures lines { (lines : List Text) → all_lines (groups_of lines) ≡ lines }
     ensures text { (text : Text) → ended (lines_of (text ++ line_feed ∷ [])) ≡ text ++ line_feed ∷ [] }

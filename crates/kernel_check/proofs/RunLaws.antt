@@ -209,8 +209,8 @@ goes_on (Some ShiftLeft) r i s listed known shifts written e = shift_goes i.k _ 
 goes_on (Some ShiftRight) r i s listed known shifts written e = shift_goes i.k _ s (shifts (inr refl)) e
 goes_on (Some op) r i s listed known shifts written e = cc
 
--- an instruction without a cause is stuck only where it loads a word of the record that is not known, or
--- a scratch word that is not written
+-- an instruction without a cause is stuck only if it loads an unknown word of the record, or a scratch
+-- word that is not written
 pub step-Stuck : (i : Insn) (r : List ℕ) (s : Registers) → IsPlain i → (operation_of i.code ≡ Some LoadWord → i.k / 4 < length r)
     → (ReadsScratch i → kept s i.k ≡ None → ⊥) → step r i s ≡ Stuck → ⊥
 step-Stuck i r s plain known written e =

@@ -42,8 +42,8 @@ pub record IsAccepted (p : List Insn) : Type 0 where
   pub limit : length p ≤ max_insns
   pub no_cause : (i : ℕ) (k : Cause) → HasCause p i k → ⊥
 
--- what a program is refused for: the least position where another cause than Scratch stands, and the
--- least cause there; where none of these stands anywhere, the least position where Scratch stands
+-- what a program is refused for: the least position with a cause other than Scratch, and the least
+-- cause there. If there is none, it is the least position with Scratch
 pub record IsRefusal (p : List Insn) (e : Refused) : Type 0 where
   pub stands : HasCause p e.pc e.cause
   pub least_position : (i : ℕ) (k : Cause) → k ≢ Scratch → HasCause p i k → e.pc ≤ i

@@ -9,7 +9,7 @@ use Rattle.bpf_insn.specs.declared.instruction.Insn.{Insn}
 use Rattle.bpf_insn.specs.Code.{operation_of}
 use Rattle.bpf_insn.specs.Causes.{WritesScratch}
 
--- from position i an instruction leads to this one: a jump to any of its targets, a return nowhere,
+-- from position i an instruction leads to this one. A jump leads to any of its targets, a return nowhere,
 -- and any other to the next position
 abbrev pub LeadsTo : Option Operation → ℕ → Insn → ℕ → Type 0
 LeadsTo (Some Jump) i insn next = next ≡ i + 1 + insn.k

@@ -1,6 +1,6 @@
 //! The kernel's check of a filter, before it is loaded.
 //!
-//! [`accept`] takes a program just where the kernel would, and else tells what is wrong and where. An
+//! [`accept`] takes a program just if the kernel would, and else reports what is wrong and at which place. An
 //! [`Accepted`] program is lent in the bytes that it was read from, and an [`AcceptedBuf`] owns a
 //! copy of them.
 #![tactic(auto)]

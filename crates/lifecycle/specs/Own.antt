@@ -16,7 +16,7 @@ abbrev pub own_replies : List ℕ → List Command → List Reply → List Reply
 own_replies id (o ∷ os) (r ∷ rs) = if same_text id (id_of o) then r ∷ own_replies id os rs else own_replies id os rs
 own_replies id os rs = []
 
--- Two worlds that agree on a container give the same reply to a command that names it, and agree on it afterwards; and a
+-- Two worlds that agree on a container give the same reply to a command that names it, and agree on it afterwards. A
 -- command that names another leaves it as it is.
 pub record IsIsolated : Type 0 where
   pub reply : (F : First) (o : Command) (w v : World) → container_at (id_of o) w ≡ container_at (id_of o) v

@@ -1,5 +1,6 @@
 -- What holds of every container, whatever was commanded before.
-use Rattle.std.specs.Prelude.{◌≡◌, ◌⊎◌, ◌&&◌, ℕ, Bool, List, [], ◌∷◌, ◌++◌, Option, None, Some, if◌then◌else◌, is_some, not, slice_get}
+use Rattle.std.specs.Prelude.{◌≡◌, ◌⊎◌, ◌&&◌, ℕ, Bool, List, [], ◌∷◌, ◌++◌, Option, None, Some}
+use Rattle.std.specs.Prelude.{if◌then◌else◌, is_some, not, slice_get}
 use Rattle.std.specs.Prelude.{take}
 use Rattle.std.specs.Prelude.{true, false}
 use Rattle.std.specs.List.{All, Contains}
@@ -54,7 +55,7 @@ OneFirstJudge = (given : Checked) → by_program given ≡ by_profile given
 
 -- ---- what a container was created with
 
--- The command that made the container of an id, with its checked filter: before it there was none, and there has been one
+-- The command that made the container of an id, with its checked filter. Before it there was none, and there has been one
 -- since, after it and after each later command.
 pub record MadeBy (F : First) (commands : List Command) (id : List ℕ) (given : Checked) : Type 0 where
   pub before : List Command
@@ -89,8 +90,8 @@ FirstFilterIsOldest =
 
 -- ---- the filters that a task has
 
--- the live task of a container that goes on under number m after a command to it: only in a running one a call is carried
--- out
+-- The live task of a container that goes on under number m after a command to it. Only in a running container a call is
+-- carried out.
 abbrev pub goes_on_after : Command → ℕ → Status → Processes → Option Process
 goes_on_after (Call id task r b) m Running ps = goes_on task r b m ps
 goes_on_after o m status ps = live_task m ps.tasks
@@ -99,8 +100,8 @@ goes_on_after o m status ps = live_task m ps.tasks
 abbrev pub goes_on_in : List ℕ → Command → ℕ → Container → Option Process
 goes_on_in id o m c = if same_text id (id_of o) then goes_on_after o m c.status c.processes else live_task m c.processes.tasks
 
--- A task that lives before a command and after it has its old filters, with newer ones in front of them or none: under its
--- own number, or, the caller of an execve, under its group's.
+-- A task that lives before a command and after it has its old filters, with newer ones in front of them or none. It lives
+-- under its own number or, if it called execve, under its group's.
 abbrev pub OldFiltersStay : Type 0
 OldFiltersStay =
     (F : First) (commands : List Command) (o : Command) (id : List ℕ) (c d : Container) (m : ℕ) (t u : Process)
@@ -137,8 +138,8 @@ is_continue (Some (Value n)) = false
 is_continue (Some (Error e)) = false
 is_continue (Some Continue) = true
 
--- Where a listener is told of a call it may continue it, unless a filter's verdict is stricter than the one that notifies: so
--- it may be carried out although the verdict refuses it, where such a response stands beside it.
+-- A listener that is notified of a call may continue it, unless a filter's verdict is stricter than the one that notifies. So
+-- the call may be carried out although the verdict refuses it, if such a response stands beside it.
 abbrev pub may_be_continued : ℕ → Beside → Bool
 may_be_continued v b = not (is_stricter v user_notif) && is_continue b.response
 
@@ -147,8 +148,9 @@ abbrev pub IsDeniedStart : Reply → Type 0
 IsDeniedStart reply = (v : ℕ) × (reply ≡ Refused (StartDenied v))
 
 -- In a run of these commands with these replies, with no containers before it: a call that its container's profile refuses is not carried
--- out. So it is whoever of the tasks presents it, and with whatever further filters. So it is whatever a listener responds, if the profile's
--- verdict is stricter than one that notifies. Nor does a container start whose profile refuses the execve with which it begins. The reply at
+-- out. So it is whoever of the tasks presents it, and with whatever further filters. So it is whatever a listener
+-- responds, if the profile's verdict is stricter than one that notifies.
+-- Nor does a container start whose profile refuses the execve with which it begins. The reply at
 -- the command's place tells both.
 pub record RefusesIn (commands : List Command) (replies : List Reply) : Type 0 where
   pub call : (i : ℕ) (id : List ℕ) (given : Checked) (task : ℕ) (r : Record) (b : Beside)

@@ -15,8 +15,9 @@ use std::alloc::AllocError;
 impl<'a, K: Kernel> Runtime<'a, K> {
     ghost use Rattle.lifecycle.specs.Views.{world_of};
 
-    /// Carries out one command: a step of the kernel in which a container's profile decides what its first filter answers, and
-    /// of that in which the filter's program does. Where memory is refused it is left undone.
+    /// Carries out one command. It is a step of the kernel in which a container's profile decides what its first filter
+    /// answers. It is also a step of the kernel in which the filter's program decides it. Where memory is refused it is
+    /// left undone.
     pub fn carry_out(&mut self, command: Command<'a, '_>) -> Result<Reply, AllocError>
         ensures headline { IfOk result (λ r. (r, world_of self.new) ≡ step by_profile (command_of command.entry) (world_of self.old)) }
         ensures step { IfOk result (λ r. (r, world_of self.new) ≡ step by_program (command_of command.entry) (world_of self.old)) }
@@ -39,7 +40,7 @@ impl<'a, K: Kernel> Runtime<'a, K> {
     /// left undone.
     ///
     /// The replies, and the world after them, are those of a run in which a container's profile decides what its first
-    /// filter answers; with the program of the filter in the profile's place it is the same run. So a call that a profile
+    /// filter answers. With the program of the filter in the profile's place it is the same run. So a call that a profile
     /// refuses is not carried out, unless a listener may continue it, and a call that no filter refuses is.
     pub fn run(&mut self, commands: &[Command<'a, '_>]) -> (Vec<Reply>, Result<(), AllocError>)
         ensures headline { IsRun by_profile (commands_of (take (length result.0.items) commands.now)) (world_of self.old) result.0.items (world_of self.new) }

@@ -1,4 +1,4 @@
--- What is judged of a filter: what is promised of each that tells all that it asks is promised of those that compare steadily, and a
+-- What is judged of a filter. What is promised of each that tells all that it asks is promised of those that compare steadily. And a
 -- certificate shows that the filter is right.
 use Rattle.std.proofs.Common.{ℕ, List}
 use Rattle.std.specs.Prelude.{Err, IfOk, Ok, Result}

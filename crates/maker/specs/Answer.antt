@@ -1,4 +1,4 @@
--- What is said of a filter and a record, both as bytes: the kernel's check (seccomp(2), and the seccomp_filter page of
+-- What is said of a filter and a record, both as bytes. It is the kernel's check (seccomp(2), and the seccomp_filter page of
 -- the kernel's documentation), and the verdict that the filter answers.
 use Rattle.std.specs.Prelude.{ℕ, ◌≡◌, ◌≢◌, Bool, true, false, List, [], ◌∷◌, ◌++◌, length, Option, Some, None, Result, IfOk, codes}
 use Rattle.texts.specs.Lines.{line_feed}

@@ -1,5 +1,5 @@
--- What is written of a bundle and a filter, both as bytes: a certificate, a call record that convicts the filter, or why there
--- is neither.
+-- What is written of a bundle and a filter, both as bytes. It is a certificate, a call record that is a counterexample to the
+-- filter, or why there is neither.
 use Rattle.std.specs.Prelude.{ℕ, ◌≡◌, ◌≢◌, ◌<◌, ◌⊎◌, Bool, true, false, List, [], ◌∷◌, ◌++◌, length, slice_index}
 use Rattle.std.specs.Prelude.{Option, None, Result, Ok, Err, IfOk, codes}
 use Rattle.hex.specs.Hex.{encode_lower}
@@ -70,8 +70,8 @@ pub record IsUndecided (native : Arch) (bundle filter : List ℕ) (e : CertifyEr
   pub no_memory : e ≢ maker.OutOfMemory
   pub steady : IsSteady (insns_of filter) 0 Nothing → e ≡ maker.TooLarge
 
--- Why there is neither. The bundle breaks a rule of bundles; or it means a profile, and the filter's bytes are no program that
--- the kernel accepts; or neither was found. Want of memory is no such reason.
+-- Why there is neither. The bundle breaks a rule of bundles. Or it means a profile, and the filter's bytes are no program that
+-- the kernel accepts. Or neither was found. Want of memory is no such reason.
 abbrev pub IsOpen : Arch → List ℕ → List ℕ → Unready → Type 0
 IsOpen native bundle filter (Profile e) = IsUnready native bundle (Profile e)
 IsOpen native bundle filter (Compile e) = ⊥
@@ -80,8 +80,8 @@ IsOpen native bundle filter (Check e) =
     IsOfFilter e × ((policy : Policy) × (cert : List ℕ) × IsBundle native bundle policy × IsFirst policy filter cert e)
 IsOpen native bundle filter OutOfMemory = ⊥
 
--- the evidence on a filter, beside a bundle: a certificate with which the checker says yes, or what convicts the filter for the
--- profile that the bundle means
+-- The evidence on a filter, beside a bundle. It is a certificate with which the checker says yes. Or it is a counterexample to
+-- the filter, for the profile that the bundle means.
 abbrev pub IsEvidenceFor : Arch → List ℕ → List ℕ → Evidence → Type 0
 IsEvidenceFor native bundle filter (Certificate cert) = (policy : Policy) × IsBundle native bundle policy × IsYes policy filter cert.items
 IsEvidenceFor native bundle filter (Convicting found) =
@@ -131,8 +131,8 @@ Certifies held failures old new native bundle filter result =
     ⊎ (WritesConviction held failures old new native bundle filter result
     ⊎ (WritesOpen held failures old new native bundle filter result ⊎ LacksMemory old new result))
 
--- The bundle means the profile, which is plain, and the filter's bytes are a program of the shape that the compiler gives to
--- the filters of such.
+-- The bundle means the profile, which is plain. The filter's bytes are a program of the shape that the compiler gives to the
+-- filters of such profiles.
 pub record IsOwnFilter (native : Arch) (bundle filter : List ℕ) (policy : Policy) : Type 0 where
   pub means : IsBundle native bundle policy
   pub plain : IsPlain policy

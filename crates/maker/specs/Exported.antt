@@ -27,8 +27,8 @@ use Rattle.maker.specs.Plain.{IsNotPlain}
 use Rattle.maker.specs.declared.unready.Unready.{Unready}
 use Rattle.maker.specs.declared.unready.Unready.TheVariants.{Profile, Compile, Certify, Check, OutOfMemory}
 
--- The bundle means its profile, and the checker says yes to the bytes of its filter with those of its certificate, in the
--- forms in which they are exported.
+-- The bundle means its profile. The checker says yes to the bytes of its filter with those of its certificate, in the forms in
+-- which they are exported.
 pub record IsCheckedOf (native : Arch) (bundle : List ℕ) (c : Checked) : Type 0 where
   pub means : IsBundle native bundle (profile_of c)
   pub read : insns_of (bytes_in Raw c) ≡ program_of c
@@ -38,9 +38,9 @@ pub record IsCheckedOf (native : Arch) (bundle : List ℕ) (c : Checked) : Type 
 abbrev pub IsTooLong : Arch → List ℕ → Type 0
 IsTooLong native bundle = (policy : Policy) × IsBundle native bundle policy × IsPlannedTooLong policy
 
--- Why a bundle has no checked filter. It breaks a rule of bundles; or it means a profile that is not plain, and the filter of
--- this is longer than a filter may be, or each certificate that was made of it larger than one may be. The checker never says
--- no. Want of memory is no such reason.
+-- Why a bundle has no checked filter. It breaks a rule of bundles. Or it means a profile that is not plain. Then its filter is
+-- longer than a filter may be, or each certificate that was made of it is larger than one may be. The checker never says no.
+-- Want of memory is no such reason.
 abbrev pub IsUnready : Arch → List ℕ → Unready → Type 0
 IsUnready native bundle (Profile e) = (e ≢ refusal.OutOfMemory) × IfSome (fault_of e) (Breaks bundle native)
 IsUnready native bundle (Compile e) = (e ≡ compiler.TooLong) × (IsNotPlain native bundle × IsTooLong native bundle)

@@ -24,8 +24,8 @@ IsNotPlain native bundle = (policy : Policy) × IsBundle native bundle policy ×
 abbrev pub HasNoConditions : Rule → Type 0
 HasNoConditions rule = rule.conds.items ≡ []
 
--- Of the chosen lists each without conditions; of all of Linux each without conditions, for calls of machines with small numbers,
--- where the machines have two tokens at most, and x32 stands beside x86-64.
+-- Of the chosen lists each bundle without conditions. Of all of Linux each without conditions, for calls of machines with small numbers.
+-- There the machines must have two tokens at most, and x32 must stand beside x86-64.
 pub record BundlesArePlain : Type 0 where
   pub chosen : (native : Arch) (bundle : List ℕ) (policy : Policy) → IsBundle native bundle policy → family_of native ≡ Chosen
       → All HasNoConditions policy.rules → IsPlain policy

@@ -97,9 +97,9 @@ pub fn judge_filter(alloc: Global, profile: &Profile, filter: &[u8]) -> Result<E
     }
 }
 
-/// The evidence on a filter, beside a bundle that is read for a native machine: a certificate that the filter answers what the bundle
-/// says, to which the checker says yes, or a call record on which the filter gives another verdict. Or else why there is neither: of
-/// a filter that compares steadily only that the format has no room.
+/// The evidence on a filter, beside a bundle that is read for a native machine. It is a certificate that the filter answers what the bundle
+/// says, to which the checker says yes. Or it is a call record on which the filter gives another verdict. Or else the reason is returned
+/// why there is neither. For a filter that compares steadily this is only that the format has no room.
 pub fn judge_bundle(
     alloc: Global,
     native: Arch,
@@ -107,7 +107,7 @@ pub fn judge_bundle(
     filter: &[u8],
 ) -> Result<Evidence, Unready>
     ensures found { IsJudgement native bundle.now filter.now result }
-    // Of a bundle that means a plain profile, and a filter as the compiler makes it of such, there is a certificate, unless memory is
+    // Take a bundle that means a plain profile, and a filter as the compiler makes it of such. There is a certificate, unless memory is
     // refused.
     ensures own { (policy : Policy) → IsOwnFilter native bundle.now filter.now policy → IsOwnJudgement result }
 {
@@ -169,9 +169,9 @@ pub fn write_judged<S: Sink>(
 }
 
 /// Writes what is judged of a bundle, which is read for a native machine, and a filter: a certificate to which the checker says
-/// yes. Where there is none, the answer is false, and the line of a call record is written on which the filter gives
-/// another verdict than the bundle says; or, where none is found, the line that says why there is neither: of a filter that
-/// compares steadily only that the format has no room.
+/// yes. If there is none, the function returns false. It writes the line of a call record on which the filter gives another
+/// verdict than the bundle says. If none is found, it writes the line that says why there is neither. For a filter that
+/// compares steadily this is only that the format has no room.
 pub fn certify_bundle<S: Sink>(
     alloc: Global,
     native: Arch,
@@ -180,7 +180,7 @@ pub fn certify_bundle<S: Sink>(
     sink: &mut S,
 ) -> Result<bool, WriteFault>
     ensures found { Certifies S.held S.failures sink.old sink.new native bundle.now filter.now result }
-    // Of a bundle that means a plain profile, and a filter as the compiler makes it of such, a certificate is written, unless
+    // Take a bundle that means a plain profile, and a filter as the compiler makes it of such. A certificate is written, unless
     // memory is refused or the sink fails.
     ensures own { (policy : Policy) → IsOwnFilter native bundle.now filter.now policy
         → CertifiesOwn S.held S.failures sink.old sink.new native bundle.now filter.now result }

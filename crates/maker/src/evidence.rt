@@ -3,9 +3,9 @@
 //! The maker is not trusted. Whether a certificate shows what it is to show is left to the checker, which stands on
 //! none of this. What the maker owes is that the checker accepts its work, and that it is small. There are two ways. Of a filter
 //! which the compiler makes of a profile with conditions, the certificate is written from the compiler's outline, by `outline`. Of
-//! any other filter each path is followed, by `certify`, which gives a certificate or a record; for profiles without conditions
-//! it is proved that the certificate is found. Where the paths are too many, the outline of the compiler's filter is tried, then the
-//! order in which the filter itself asks for rules, and then `record_search` looks for a record.
+//! any other filter each path is followed, by `certify`, which gives a certificate or a record. For profiles without conditions it is
+//! proved that the certificate is found. If the paths are too many, the outline of the compiler's filter is tried, then the order in which
+//! the filter itself asks for rules. Then `record_search` looks for a record.
 mod asked;
 mod evidence;
 mod hand;

@@ -29,9 +29,9 @@ pub fn evidence_excludes()
     meaning_is_one();
 }
 
-/// Which bundles mean plain profiles: those without conditions, for machines of one of the chosen lists; and those of all of
-/// Linux without conditions, for calls with small numbers, where the machines have two tokens at most and x32 stands beside
-/// x86-64.
+/// Which bundles mean plain profiles. The first are those without conditions, for machines of one of the chosen lists. The
+/// others are those of all of Linux without conditions, for calls with small numbers. There the machines must have two tokens
+/// at most, and x32 must stand beside x86-64.
 pub fn bundles_are_plain()
     ensures { BundlesArePlain }
 {}

@@ -1,7 +1,7 @@
 //! What is judged and made of a bundle, a filter and a certificate, and what each command writes of them: `verdict`, `check`,
-//! `certify` (`certifying`) and `export` (`exporting`). `slot` has the way from a bundle to its checked filter, and `evidence` that
-//! from a filter to its certificate, or to a record that convicts it. `outline` and `record_search`, of which it takes both, promise nothing.
-//! The checker stands on none of this.
+//! `certify` (`certifying`) and `export` (`exporting`). `slot` has the way from a bundle to its checked filter. `evidence` has that from a
+//! filter to its certificate, or to a record that is a counterexample. `outline` and `record_search`, of which it takes both, promise
+//! nothing. The checker stands on none of this.
 #![tactic(auto)]
 
 mod certifying;

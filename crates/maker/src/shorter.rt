@@ -1,5 +1,6 @@
-//! What is proposed first, and taken if the checker says yes: a filter that is shorter than the compiler's own; or of a profile
-//! without conditions the compiler's own, with the certificate of its outline, which is smaller than the one that follows each path.
+//! What is proposed first, and taken if the checker says yes. It is a filter that is shorter than the compiler's own. Or, of a profile
+//! without conditions, it is the compiler's own with the certificate of its outline. That certificate is smaller than the one that follows
+//! each path.
 ghost use Rattle.std.specs.Prelude.{◌≡◌, IfErr};
 ghost use Rattle.certify.specs.declared.error.CertifyError.TheVariants as maker;
 ghost use Rattle.maker.specs.declared.unready.Unready.TheVariants.{OutOfMemory};

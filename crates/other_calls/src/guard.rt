@@ -75,7 +75,8 @@ fn fronts(
     }
 }
 
-/// A program that goes on at its last instructions, so many, on calls of these machines, and else at the first of the program that is given.
+/// A program that goes on at its last instructions, so many, on calls of these machines. Else it goes on at the first of the program that
+/// is given.
 pub(crate) fn guard(
     alloc: Global,
     machines: &[Arch],

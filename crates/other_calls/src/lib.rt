@@ -1,5 +1,5 @@
-//! Calls of machines that are listed, and all others: a filter is made of another that gives the first what that one gives, and kills all
-//! others just where that one allows them.
+//! Calls of machines that are listed, and all others. A filter is made of another. It gives the first calls what that one gives, and
+//! kills all others just where that one allows them.
 //!
 //! With it a maker and a checker that know profiles alone, in which all other calls are killed, judge a filter that allows them.
 #![tactic(auto)]

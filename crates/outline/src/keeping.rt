@@ -14,7 +14,7 @@ use cert_form::{Claim, Kind};
 use cert_state::{AVal, Facts, Knowledge, Lit, Room};
 use std::alloc::AllocError;
 
-/// What is kept on the ways to a spot: what the chains of all spots before it have in common, and what the only way tells.
+/// What is kept on the ways to a spot. This is what the chains of all spots before it have in common, and what the only way tells.
 #[derive(Clone, Copy)]
 struct Kept {
     chain: u32,

@@ -110,8 +110,8 @@ fn asks_for(cond: &Cond, is_low: bool, word: u8, mask: u32, datum: Option<u32>) 
     is_asked && under == mask && (datum.is_none() || datum == Some(asked))
 }
 
-// Whether a condition that is not settled makes a literal worth knowing: it asks for the word, or for the bits; and where these are
-// told not to be some datum, for just this.
+// Whether a condition that is not settled makes a literal worth knowing. It does if it asks for the word, or for the bits. If the literal
+// tells that the bits are not some datum, the condition has to ask for just this datum.
 fn needs(cond: &Cond, is_low: bool, literal: Lit) -> bool {
     match literal {
         Lit::NotBits(word, mask, datum) if mask != u32::MAX => {
@@ -233,8 +233,8 @@ impl<'a> Maker<'a> {
         })
     }
 
-    // What is left of the rules of a call, of which these are left of the part that is asked, and what is known of its arguments as
-    // far as they need it. Where none is left of a part, the next part is asked.
+    // What is left of the rules of a call, and what is known of its arguments as far as they need it. These are left of the part that is
+    // asked. If none is left of a part, the next part is asked.
     fn settled(
         &self,
         call: usize,
@@ -280,8 +280,8 @@ impl<'a> Maker<'a> {
         }
     }
 
-    /// Settles the rules of a spot's call, now that something was told of a word. Where it was known already, what is told settles
-    /// only what it settles by itself, as for the compiler, which asks again since it has forgotten the rest.
+    /// Settles the rules of a spot's call, now that something was told of a word. If it was known already, what is told settles only what
+    /// it settles by itself. So it is for the compiler, which asks again since it has forgotten the rest.
     pub(crate) fn settle(
         &mut self,
         spot: &mut Spot,

@@ -1,10 +1,10 @@
 //! Writes the certificate of a filter that the compiler made, and forgets on the way what no longer matters.
 //!
 //! It goes down the filter from its beginning, and writes a node for each place and for each thing that may be known there. Of
-//! a call the compiler asks rules in parts, one part after the other: that is all that the maker is told. So a rule of the part
-//! that is asked is out once what is known refutes it, and a condition is met once it is yes; and a word of the record of which
-//! no rule that is left asks anything is forgotten. Paths that are then alike share their nodes. Where the compiler went on alike
-//! for numbers that are unlike, what is known is cut in two.
+//! a call the compiler asks rules in parts, one part after the other: that is all that the maker is told. So a rule of the part that is
+//! asked is out once what is known refutes it. A condition is met once it is yes. A word of the record is forgotten if no rule that is left
+//! asks anything of it. Paths that are then alike share their nodes. Where the compiler went on alike for numbers that are unlike, what is
+//! known is cut in two.
 //!
 //! The maker is not trusted, and promises nothing of what it writes: whoever relies on a certificate has it checked.
 #![tactic(auto)]

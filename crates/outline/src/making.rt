@@ -101,8 +101,8 @@ pub fn are_too_many(calls: &[AskedCall]) -> bool {
 }
 
 /// The certificate of the filter that the compiler made of a profile, with the calls of which its outline says that rules ask for
-/// arguments. Calls that are asked alike are told apart at the returns; where it comes out large so, or too large, also before their
-/// arguments are asked for, and the shorter one is taken.
+/// arguments. Calls that are asked alike are told apart at the returns. If the certificate comes out large so, or too large, they are told
+/// apart also before their arguments are asked for. Then the shorter one is taken.
 pub fn outlined(
     alloc: Global,
     profile: &Profile,

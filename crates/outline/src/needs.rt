@@ -1,5 +1,5 @@
-//! What is needed of rules behind a node: which must be out there already, since no way behind refutes them before a return that
-//! asks it, and which are those that hold in the end.
+//! What is needed of rules behind a node: which must be out there already, and which are those that hold in the end. A rule must be out
+//! there if no way behind refutes it before a return that asks this.
 
 use crate::conditions::{Answer, by_all, low_word};
 use crate::fault::OutlineError;

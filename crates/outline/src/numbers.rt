@@ -307,8 +307,8 @@ impl<'a> Maker<'a> {
         machines.iter().filter(|arch| arch.token() == token).count() > 1
     }
 
-    /// Where the number is cut before it is compared at a spot, if calls are told apart early: between those of two machines with one
-    /// token, so that a list of the numbers of both is followed twice, for the half of them each.
+    /// Where the number is cut before it is compared at a spot, if calls are told apart early. It is cut between those of two machines with
+    /// one token. So a list of the numbers of both is followed twice, for the half of them each.
     pub(crate) fn cut_of_machine(&self, spot: &Spot) -> Option<Cut> {
         if !self.is_early || spot.a != AVal::Masked(NUMBER, u32::MAX) {
             return None;

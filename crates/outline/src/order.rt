@@ -68,8 +68,8 @@ fn without(alloc: Global, rules: &[u32], others: &[u32]) -> Result<Vec<u32>, All
 // How many of the next beginnings are tried as the end of a part.
 const MOST_TRIED: usize = 4;
 
-// Where a part may begin: which rules are asked for in it, which are left for the parts before it, and which of such beginnings is the
-// next one, if there is one.
+// Where a part may begin: which rules are asked for in it, and which are left for the parts before it. Also, which of such beginnings is
+// the next one, if there is one.
 #[derive(Drop)]
 struct Beginning {
     from: usize,

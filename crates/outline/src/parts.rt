@@ -1,4 +1,4 @@
-//! What a maker of certificates works with: chains of claims, where nodes lead, where what is known is cut in two, and tables in
+//! What a maker of certificates works with. These are chains of claims, where nodes lead, where what is known is cut in two, and tables in
 //! which each thing stands once.
 mod chains;
 mod cuts;

@@ -136,8 +136,8 @@ impl<'a> Maker<'a> {
         }
     }
 
-    // Whether the rules of a section are settled at a spot where it ends: none is left; or at another verdict than the default one holds,
-    // if all of them are asked for.
+    // Whether the rules of a section are settled at a spot where it ends. They are if none is left. At another verdict than the default one
+    // of them has to hold instead, if all of them are asked for.
     fn is_as_asked(&self, section: Section<'_>, spot: &Spot, are_all: bool) -> bool {
         let (is_empty, holds) = self.settled_at(spot);
         if spot.pc == section.to || self.returns_default(spot.pc) {

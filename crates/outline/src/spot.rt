@@ -14,8 +14,8 @@ pub(crate) enum Which {
     Asked(usize),
 }
 
-/// A position of the code, what A holds there, and what is known: of the call's machine and number, of its arguments, and of the
-/// rules, each by its place in a table.
+/// A position of the code, what A holds there, and what is known. This is known of the call's machine and number, of its arguments, and of
+/// the rules, each by its place in a table.
 #[derive(Clone, Copy, PartialEq, Eq)]
 pub(crate) struct Spot {
     pub(crate) pc: usize,

@@ -6,7 +6,7 @@ use cert_state::{Knowledge, Listed, Lit, is_dead_at, range};
 use std::alloc::{AllocError, Global};
 
 /// Literals of whole words, word by word, and of bits under masks. What is known of bits under one mask is not looked at for those
-/// under another, nor for the whole word: the compiler, too, asks for them apart.
+/// under another, nor for the whole word. The compiler, too, asks for them apart.
 #[derive(PartialEq, Eq, Drop)]
 pub(crate) struct Words {
     pub(crate) whole: Vec<Lit>,

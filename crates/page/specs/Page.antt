@@ -8,7 +8,8 @@ use Rattle.page.specs.Table.{rows}
 use Rattle.page.specs.declared.front.TheConstants.{FRONT}
 use Rattle.page.specs.declared.side.Side.{Side as Lent}
 
--- What is told of a profile: the name of its file, what `review` tells of it, and what `draw` tells of its filter, or why it has none.
+-- What is told of a profile. This is the name of its file, what `review` tells of it, and what `draw` tells of its filter, or why it
+-- has none.
 pub record Side : Type 0 where
   pub name : Text
   pub review : Text

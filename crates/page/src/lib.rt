@@ -1,4 +1,5 @@
-//! The page of a review: what is told of one profile or of two, as one text of HTML, without scripts and with nothing from elsewhere.
+//! The page of a review: what is told of one profile or of two. It is one text of HTML, without scripts and with nothing from
+//! elsewhere.
 #![tactic(auto)]
 
 mod front;

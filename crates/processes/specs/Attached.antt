@@ -49,8 +49,8 @@ reads_on (Some Jump) insn written rest = rest insn.k written
 reads_on (Some (Branch test c)) insn written rest = rest insn.jt written || rest insn.jf written
 reads_on _ insn written rest = rest 0 written
 
--- some path through the instructions that are left, from a position of them on, reads a scratch word that neither it
--- nor what came before it has written
+-- Some path through the instructions that are left, from a position of them on, reads a scratch word. Neither the path
+-- nor what came before it has written the word.
 abbrev pub reads_unwritten : List Insn → ℕ → List ℕ → Bool
 reads_unwritten [] pc written = false
 reads_unwritten (insn ∷ p) (suc pc) written = reads_unwritten p pc written

@@ -85,8 +85,8 @@ has_room ps = nat_lt ps.made 1024
 abbrev pub with_new : (ℕ → Process) → Processes → Answer
 with_new make ps = if has_room ps then with_next make ps else (Failed eagain, ps)
 
--- A new image: the other tasks of the group end by signal 9, and the caller goes on as the task that
--- has the group's number.
+-- A new image. The other tasks of the group end by signal 9, and the caller goes on as the task that has the group's
+-- number.
 
 abbrev pub is_sibling : Process → Process → Bool
 is_sibling t u = is_in_group t.group u && not (is_task t.number u)
@@ -94,8 +94,7 @@ is_sibling t u = is_in_group t.group u && not (is_task t.number u)
 abbrev pub renewed : Process → Process
 renewed t = record t { number = t.group; images = min (t.images + 1) (2 ^ 64 - 1) }
 
--- the caller's entry replaces the one with the group's number, and its own number, where it is
--- another, has none
+-- The caller's entry replaces the one with the group's number. Its own number, if it is another, has none.
 abbrev pub take_over : Process → List Process → List Process
 take_over t tasks =
     map (λ u. if is_task t.group u then renewed t else u)

@@ -27,8 +27,8 @@ StandsBehind old fs = (newer : List Filter) × (fs ≡ newer ++ old)
 abbrev pub KeepsBehind : List Filter → Process → Type 0
 KeepsBehind old t = StandsBehind old t.filters
 
--- what is behind the filters of every task stays behind them, and a container begins with its first filter there: so
--- the oldest filter of each task is the container's first
+-- What is behind the filters of every task stays behind them, and a container begins with its first filter there. So
+-- the oldest filter of each task is the container's first.
 pub record FirstFilterStays : Type 0 where
   pub begin : (native : Arch) (judge : Judge) → Each (KeepsBehind (record { load = 0; judge = judge } ∷ [])) (admitted native judge).tasks
   pub event : (old : List Filter) (n : ℕ) (r : Record) (b : Beside) (ps : Processes) → Each (KeepsBehind old) ps.tasks
@@ -61,8 +61,8 @@ pub record GroupsStayLed : Type 0 where
 abbrev pub NoneOutlives : Processes → Type 0
 NoneOutlives ps = lives ps ≡ false → Each HasEnded ps.tasks
 
--- An end leaves it so, whatever was before it. A container begins so, and stays so: in an event that is an execve the
--- caller goes on in the place of the leader of its group, so that it wants groups that are led.
+-- An end leaves it so, whatever was before it. A container begins so, and stays so. In an event that is an execve the
+-- caller goes on in the place of the leader of its group. So it wants groups that are led.
 pub record NoneOutlivesGroup1 : Type 0 where
   pub end : (test : Process → Bool) (e : End) (ps : Processes) → NoneOutlives (ended test e ps)
   pub begin : (native : Arch) (judge : Judge) → NoneOutlives (admitted native judge)
@@ -82,7 +82,7 @@ abbrev pub goes_on_by : Option Process → Record → Beside → ℕ → Process
 goes_on_by None r b m ps = live_task m ps.tasks
 goes_on_by (Some t) r b m ps = if executes r b ps t && (t.group == m) then Some t else live_task m ps.tasks
 
--- the live task that goes on under number m after task n presents a record: the caller of an execve under its group's
--- number, and any other under its own
+-- The live task that goes on under number m after task n presents a record. The caller of an execve goes on under its
+-- group's number, and any other under its own.
 abbrev pub goes_on : ℕ → Record → Beside → ℕ → Processes → Option Process
 goes_on n r b m ps = goes_on_by (live_task n ps.tasks) r b m ps

@@ -16,9 +16,8 @@ const fn greatest(narrow: bool) -> u64
 /// Whether one number that may be compared meets both conditions.
 ///
 /// Only one number meets an equation. Any other condition that holds of a number holds of all below
-/// it with the same bits under the mask, or of all above. So where some number meets both, so does
-/// the least or the greatest with the bits of both, or a number that the conditions compare with, or
-/// the one after it.
+/// it with the same bits under the mask, or of all above. So if some number meets both, one of these does: the
+/// least or the greatest with the bits of both, a number that the conditions compare with, or the one after it.
 pub(crate) fn meet(narrow: bool, a: &Cond, b: &Cond) -> bool
     ensures { IsTrue result ↔ HaveCommon narrow a.now b.now }
 {

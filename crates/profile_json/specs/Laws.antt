@@ -38,8 +38,8 @@ pub record MeantBefore (t : Data) (native : Arch) (p : Policy) : Type 0 where
 abbrev pub MeaningIsKept : Type 0
 MeaningIsKept = (t : Data) (native : Arch) (p : Policy) → MeantBefore t native p → Means t native p
 
--- What root, action and keys mean to the machines of the chosen tables, they mean to those of whole tables: these read it alike before
--- they read more editions, actions and flags.
+-- What root, action and keys mean to the machines of the chosen tables, they mean to those of whole tables. The latter
+-- read more editions, actions and flags beside it.
 pub record MeaningIsWidened : Type 0 where
   pub roots : (t s : Data) → RootMeans Chosen t s → RootMeans Whole t s
   pub verdicts : (action_key errno_key : List ℕ) (d : Data) (word : ℕ) → VerdictMeans Chosen action_key errno_key d word

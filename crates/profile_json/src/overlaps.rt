@@ -73,8 +73,10 @@ fn entry_at(ends: &[usize], place: usize) -> Option<usize>
     ends.iter().position(|end| place < *end)
 }
 
-/// The refusal where the rule at a place overlaps an earlier one: the entry of that rule, the
-/// least earlier entry that it overlaps, and the first of its names that is concerned.
+/// The refusal if the rule at a place overlaps an earlier one.
+///
+/// It names the entry of that rule, the least earlier entry that it overlaps, and the first of its names that is
+/// concerned.
 pub(crate) fn overlap_of(
     entries: &[Entry],
     machines: &[Arch],

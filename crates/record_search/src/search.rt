@@ -196,8 +196,8 @@ impl Trials<'_> {
     }
 }
 
-/// A record for which the filter gives another verdict than the profile says, if one is found among the calls of the tables, the
-/// ends of foreign numbers, and records beside the rules. Calls of the tables come before all others.
+/// A record for which the filter gives another verdict than the profile says, if one is found. It is looked for among the calls
+/// of the tables, the ends of foreign numbers, and records beside the rules. Calls of the tables come before all others.
 pub fn find_beside_rules<'a>(
     alloc: Global,
     profile: &'a Profile,

@@ -3,7 +3,8 @@
 use crate::words::Words;
 use bpf_insn::{Operand, Operation};
 
-/// A number of a run, with the word of the record from which it comes, if it does, and whether anything was computed of it since.
+/// A number of a run, with the word of the record from which it comes, if it does. Also whether anything was computed of it
+/// since.
 #[derive(Clone, Copy)]
 pub(crate) struct Traced {
     pub(crate) number: u32,

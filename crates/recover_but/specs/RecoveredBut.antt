@@ -14,8 +14,8 @@ use Rattle.compare.specs.StubTold.{calls_line, stub_text}
 use Rattle.aside.specs.declared.leave.Leave.{Leave}
 use Rattle.aside.specs.Judged.{AreLeftOut, MeansRightBut, stub_calls}
 
--- The kernel accepts the filter. The bundle means a profile for which it is right but for calls that are left aside, with reason, and for
--- those that its stub answers.
+-- The kernel accepts the filter. The bundle means a profile for which it is right but for some calls. These are left aside, with reason,
+-- or its stub answers them.
 pub record IsRecoveredBut (native : Arch) (bundle filter : List ℕ) (leave : Leave) (answered aside : List Calls) : Type 0 where
   pub accepted : AreAccepted filter
   pub left : AreLeftOut native bundle filter leave aside
@@ -39,8 +39,8 @@ abbrev pub lines_of : Family → Bool → ℕ → List Calls → Bool → List C
 lines_of family runc size answered whole aside =
     (if runc then stub_text family size answered whole else []) ++ aside_text family aside
 
--- A bundle that is made of a filter, and the lines that tell of which calls the filter need not be right: those that a stub answers, where
--- it was asked for, and those that are left aside.
+-- A bundle that is made of a filter, and the lines that tell of which calls the filter need not be right. They are those that a stub
+-- answers, if it was asked for, and those that are left aside.
 pub record IsToldBut (native : Arch) (filter : List ℕ) (runc : Bool) (leave : Leave) (bundle lines : List ℕ) : Type 0 where
   pub rest : List ℕ
   pub answered : List Calls

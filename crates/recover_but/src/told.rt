@@ -90,8 +90,8 @@ fn lines_of(
     Ok(text)
 }
 
-/// The bundle of which a filter is right but for calls that may be left aside, and, if it is asked for, for those that runc's stub answers;
-/// and the lines that tell these calls. Else what no section says of it.
+/// The bundle of which a filter is right but for calls that may be left aside. If it is asked for, also but for those that runc's stub
+/// answers. With it come the lines that report these calls. Else what no section says of it.
 pub fn recover_told(
     alloc: Global,
     native: Arch,

@@ -1,8 +1,8 @@
 //! What profile does a filter have that allows the calls of machines that it does not know? No section says that, since the calls of
 //! machines that it does not list are killed. Such a section is written with a member that no engine reads and that tells it.
 //!
-//! A section is drafted of a filter that kills these calls in place of allowing them. None of that is trusted: the section is judged with
-//! another such filter, whose front tells the calls of just its machines, and handed out only with a certificate.
+//! A section is drafted of a filter that kills these calls in place of allowing them. None of that is trusted. The section is judged with
+//! another such filter, whose front tells the calls of just its machines. It is handed out only with a certificate.
 #![tactic(auto)]
 
 mod drafted;

@@ -35,8 +35,8 @@ abbrev pub asked_with : PartEntry → Arch → Option ℕ → List Asked
 asked_with part arch None = []
 asked_with part arch (Some nr) = record { arch = arch; nr = nr; part = part } ∷ []
 
--- the part of a call on a machine: the flags of clone, the first argument elsewhere, are the second one on s390x and s390
--- (clone(2), C library/kernel differences)
+-- The part of a call on a machine. The flags of clone, the first argument elsewhere, are the second one on s390x and s390
+-- (clone(2), C library/kernel differences).
 abbrev pub part_on : Arch → List ℕ → PartEntry → PartEntry
 part_on arch name part = if is_big_endian arch && bytes_eq name (codes "clone") then (part.0, 1, part.2, part.3) else part
 

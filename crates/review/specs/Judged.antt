@@ -51,7 +51,7 @@ IsOpposed asked q = (rule : Rule) × IsOpposedBy asked rule q
 
 -- ---- what is found
 
--- No record that is asked about is let through; or this one is; or the rules of the profile and the one above can answer in more ways
+-- No record that is asked about is let through, or this one is. Or the rules of the profile and the one above can answer in more ways
 -- than are looked at.
 abbrev pub IsAnswer : Policy → Asked → Answer → Type 0
 IsAnswer p asked Refused = (r : List ℕ) → IsAsked asked r → LetsThrough p r → ⊥

@@ -35,7 +35,7 @@ pub(crate) fn whole(arch: Arch) -> Arch
     }
 }
 
-// The part of a call on a machine: the flags of clone, the first argument elsewhere, are the second one on s390x and s390
+// The part of a call on a machine. The flags of clone, the first argument elsewhere, are the second one on s390x and s390
 // (clone(2), C library/kernel differences).
 fn part_on(arch: Arch, name: &str, part: Part) -> Part
     ensures { result ≡ spec.part_on arch name.now part.entry }

@@ -101,8 +101,8 @@ fn text_for(alloc: Global, native: Arch, bundle: &[u8]) -> Result<String, Profil
     Ok(text)
 }
 
-/// Tells what a bundle, which is read for a native machine, leaves open of the calls by which a kernel is attacked most: group by
-/// group, each call that it lets through, and by which entry. systemd's groups follow.
+/// Reports what a bundle, which is read for a native machine, leaves open of the calls by which a kernel is attacked most. Group
+/// by group, it reports each call that it lets through, and by which entry. The groups of systemd follow.
 pub fn review(alloc: Global, native: Arch, bundle: &[u8]) -> Result<Told, AllocError>
     ensures { IfOk result (spec.IsReviewed native bundle.now) }
 {

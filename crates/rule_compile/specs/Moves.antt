@@ -1,5 +1,5 @@
--- What an instruction of the filter of a profile without conditions does. Such a filter tells calls apart by their number
--- and their machine's token alone (words 0 and 1 of struct seccomp_data), and is of five instructions.
+-- What an instruction of the filter of a profile without conditions does. Such a filter tells calls apart by their number and
+-- their machine's token alone (words 0 and 1 of struct seccomp_data). It is of five instructions.
 use Rattle.std.specs.Prelude.{ℕ, ◌==◌, if◌then◌else◌, Option, Some, None}
 use Rattle.bpf_insn.specs.declared.code.Operand.TheVariants.{K}
 use Rattle.bpf_insn.specs.declared.code.Test.{Test}
@@ -7,8 +7,8 @@ use Rattle.bpf_insn.specs.declared.code.Test.TheVariants.{Equal, AtLeast}
 use Rattle.bpf_insn.specs.declared.code.Operation.{Operation}
 use Rattle.bpf_insn.specs.declared.code.Operation.TheVariants.{LoadWord, ReturnK, Jump, Branch}
 
--- the run ends by a verdict; or it goes on past some instructions, with this word of the record in A or with none; or it
--- compares this word of the record, and goes on by one of two targets
+-- The run ends by a verdict. Or it goes on past some instructions, with this word of the record in A or with none. Or it
+-- compares this word of the record, and goes on by one of two targets.
 pub data Move : Type 0 where
   Ends : (word : ℕ) → Move
   Goes : (skip : ℕ) → (held : Option ℕ) → Move

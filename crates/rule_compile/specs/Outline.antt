@@ -29,8 +29,8 @@ StandInTurn blocks other [] whole = whole ≡ other
 StandInTurn blocks other (part ∷ parts) whole =
     StandsFor blocks part.leaf part.rules.items other × StandInTurn blocks part.leaf parts whole
 
--- what parts come to on a record: the verdict of a rule that it meets in the last of them; and where it meets none there, what
--- the parts before come to, and at last another verdict
+-- What parts come to on a record: the verdict of a rule that it meets in the last of them. If it meets none there, it is what
+-- the parts before come to, and at last another verdict.
 abbrev pub ComeInTurn : (ℕ → Type 0) → List Part → List ℕ → ℕ → Type 0
 ComeInTurn other [] r v = other v
 ComeInTurn other (part ∷ parts) r v =
@@ -54,8 +54,8 @@ pub record IsCallOf (policy : Policy) (blocks : List Block) (call : Call) : Type
   pub decides : (r : List ℕ) → IsOfCall call r → Decides blocks r (said policy r) call.leaf
   pub asked : IsAskedOf policy blocks call call.asked
 
--- The ranges of each block hold each number of 32 bits once, each block gives each record one verdict, and it stands for the questions
--- that are open there.
+-- The ranges of each block hold each number of 32 bits once, and each block gives each record one verdict. It stands for the questions that
+-- are open there.
 pub record IsOutlineOf (policy : Policy) (outline : Outline) : Type 0 where
   pub blocks : (place : ℕ) (block : Block) → slice_get outline.blocks.items place ≡ Some block
       → StandsFor outline.blocks.items (leaf.Block place) block.rules.items block.other

@@ -1,5 +1,5 @@
--- What questions ask of the words of a record. A filter sees an argument of 64 bits as two words: two numbers compare as
--- their high words do where these differ, and else as their low words do.
+-- What questions ask of the words of a record. A filter sees an argument of 64 bits as two words. Two numbers compare as their
+-- high words do if these differ, and else as their low words do.
 use Rattle.std.specs.Prelude.{◌≡◌, ℕ, ◌-◌, ◌/◌, ◌==◌, nat_le, Bool, if◌then◌else◌, List, Option, Some, None, bit_and, slice_index}
 use Rattle.rule_compile.specs.declared.question.Comparison.{Comparison}
 use Rattle.rule_compile.specs.declared.question.Comparison.TheVariants.{Equal, AtLeast}

@@ -40,8 +40,8 @@ abbrev pub AreSmallNative : List Arch → Type 0
 AreSmallNative machines =
     All (λ arch. (nr : ℕ) → nr < above_all_numbers → Any (HasCall (token_of arch) nr) machines) machines
 
--- no rule has a condition, no number has two verdicts, each small number is a listed machine's, and the machines have two
--- tokens at most: a filter has room for the calls of so many
+-- No rule has a condition, no number has two verdicts, and each small number is a listed machine's. The machines have two
+-- tokens at most: a filter has room for the calls of so many.
 pub record IsPlain (policy : Policy) : Type 0 where
   pub rules : All IsPlainRule policy.rules
   pub small : AreSmallNative policy.machines

@@ -1,5 +1,5 @@
--- How a filter compares what it has loaded: a number only after a word of the record was loaded, and by order only the whole
--- word. So on each way through the filter a comparison tells of one word of the record just what it asks.
+-- How a filter compares what it has loaded. It compares a number only after a word of the record was loaded, and by order only
+-- the whole word. So on each way through the filter a comparison tells of one word of the record just what it asks.
 use Rattle.std.specs.Prelude.{◌≡◌, ⊤, ℕ, zero, suc, List, [], ◌∷◌, Option, Some}
 use Rattle.bpf_insn.specs.declared.code.Operand.TheVariants.{K}
 use Rattle.bpf_insn.specs.declared.code.Test.{Test}

@@ -1,9 +1,8 @@
 //! What decides calls of which rules ask for arguments, as blocks.
 //!
-//! A block asks for bits of one word, and goes on at a verdict or at another block, by the range that
-//! has the number of these bits. So what is known of a word is used by all rules, and what a failed
-//! half leaves of them is a block as well. Where the same is left to ask, it is the same block,
-//! whichever calls and machines come to it.
+//! A block asks for bits of one word. It goes on at a verdict or at another block: the range that has the number of these bits
+//! decides. So what is known of a word is used by all rules, and what a failed half leaves of them is a block as well. Where
+//! the same is left to ask, it is the same block, whichever calls and machines come to it.
 ghost use Rattle.std.specs.Prelude.{◌≡◌, ◌≤◌, ◌<◌, ◌^◌, ◌++◌, ◌∷◌, ◌⊎◌, [], None, take, drop, length, vec_len, All, IfOk, IfSome, IsSome, IsTrue, OnOk};
 ghost use Rattle.rule_compile.specs.inner.Built.{IsFoundAt, IsKept};
 ghost use Rattle.rule_compile.specs.inner.Left.{AreRules, AsksFor, weight};

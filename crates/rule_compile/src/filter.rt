@@ -32,11 +32,11 @@ use call_tables::Arch;
 use profile::Profile;
 use std::alloc::{AllocError, Global};
 
-/// A filter of the profile, as the bytes of its instructions: the kernel accepts it, and its verdict on each call record is
-/// the one that the profile says, conditions included.
+/// A filter of the profile, as the bytes of its instructions. The kernel accepts it. Its verdict on each call record is that of
+/// the profile, conditions included.
 ///
-/// Where no rule has a condition, each number is a small one of a table, and the machines have two tokens at most, there is a
-/// filter if there is memory, and its paths are few and short.
+/// Assume that no rule has a condition, each number is a small one of a table, and the machines have two tokens at most. Then
+/// there is a filter if there is memory, and its paths are few and short.
 pub fn compile(alloc: Global, profile: &Profile) -> Result<Vec<u8>, CompileError>
     ensures program { IfOk result (λ bytes. view_fault bytes.items ≡ None) }
     ensures right { IfOk result (λ bytes. IsRightFilter profile.now (insns_of bytes.items)) }

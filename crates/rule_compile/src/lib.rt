@@ -1,7 +1,7 @@
 //! Compiles a profile to a seccomp filter.
 //!
-//! That each filter is right is proved here. Nobody has to rely on it: what loads a filter stands on a check of the filter
-//! against the profile, which knows nothing of this code.
+//! That each filter is right is proved here. Nobody has to rely on it. What loads a filter stands on a check of the filter
+//! against the profile. The check knows nothing of this code.
 #![tactic(auto)]
 
 mod asked;

@@ -53,8 +53,8 @@ pub(crate) fn cost_of(rules: &[Open], ranges: usize) -> usize {
     ranges.max(rules.len() / REPEATED)
 }
 
-/// How many ranges may be looked at where rules are asked all at once, that are to be no more than these, and at most as many as four
-/// filters can tell apart. Where these are more than that, nor will those be few that take the place of them.
+/// How many ranges may be looked at if rules are asked all at once. In the end they are to be no more than these. At most as many are
+/// looked at as four filters can tell apart. If these are more than that, those that take the place of them will not be few either.
 pub(crate) fn room_for(rules: &[Open], fewest: usize) -> usize {
     if fewest > MOST {
         return 0;

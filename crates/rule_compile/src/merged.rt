@@ -1,8 +1,8 @@
 //! Blocks that ask for bits of one word, put together.
 //!
-//! Conditions under several masks may say together that bits are not one number, or that the word is in a range: one comparison
-//! or two tell it, where block after block asks for the bits of one mask. Nothing is proved of what comes of it: who takes it
-//! has it checked.
+//! Conditions under several masks may say together that bits are not one number, or that the word is in a range. One comparison
+//! or two tell it. Before the blocks are put together, block after block asks for the bits of one mask. Nothing is proved of
+//! what comes of it: who takes it has it checked.
 
 use crate::outline::Block;
 use crate::question::Subject;
@@ -204,8 +204,8 @@ fn add_within(
     Ok(())
 }
 
-// The ranges of a whole word, with those of the blocks of the same word that they go on at in the place of these; and whether
-// there are such.
+// The ranges of a whole word. A range that goes on at a block of the same word is replaced by the ranges of this block. Also
+// returns whether there is such a range.
 fn composed(
     alloc: Global,
     own: &Words,

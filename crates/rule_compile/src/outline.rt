@@ -28,8 +28,8 @@ pub struct Part {
 pub enum Asked {
     /// Nothing: the rule at this place of the profile's order holds.
     Nothing(usize),
-    /// The questions of the last part stand for the first ones that are asked. Where none of a part's rules holds, the
-    /// part before it in this list is asked, and after the first one of the list the call has the default verdict.
+    /// The questions of the last part stand for the first ones that are asked. If none of a part's rules holds, the part before
+    /// it in this list is asked. After the first one of the list the call has the default verdict.
     InParts(Vec<Part>),
 }
 

@@ -154,8 +154,8 @@ impl Ranges {
         None
     }
 
-    /// Adds the numbers up to an end, where any of them are missing: to the last range where they are
-    /// decided alike, and else as a range of their own.
+    /// Adds the numbers up to an end, if any of them are missing. They go to the last range if they are decided alike, and else
+    /// are a range of their own.
     pub(crate) fn extend(&mut self, end: u64, leaf: Leaf) -> Result<(), AllocError>
         requires { end ≤ 2 ^ 32 }
         ensures end { OnOk result (self.new.end ≡ max self.old.end end) }
@@ -356,7 +356,7 @@ pub(crate) fn ranges_of(
     Ok(ranges.ranges)
 }
 
-// The least number, from one on, that has a rule of the machine with the token, or else the end: mostly it is the first one.
+// The least number, from one on, that has a rule of the machine with the token, or else the end. Mostly it is the first one.
 fn next_of(profile: &Profile, token: u32, from: u64, end: u64) -> u64
     requires before { from < end }
     requires small { end ≤ 2 ^ 32 }

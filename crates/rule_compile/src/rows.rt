@@ -113,7 +113,7 @@ fn longest(ranges: &[Range], written: &[Written]) -> usize {
     most
 }
 
-/// Where the ranges are a list, and may be told in rows, writes the levels of the cuts in front of its rows, and answers how many
+/// If the ranges are a list, and may be told in rows, writes the levels of the cuts in front of its rows. Then it returns how many
 /// instructions there are at most from the first comparison to a return.
 pub(crate) fn plan_rows(
     ranges: &[Range],

@@ -1,8 +1,8 @@
 //! Filters in which searches for numbers share what they have in common.
 //!
-//! Machines with one token have one search (`folded`), and numbers that are decided alike on two machines, as those from 424
-//! on that Linux gives out for all of them, stand once. Blocks that ask for bits of one word are put together (`merged`). Nothing
-//! is proved of such a filter: who takes one has it checked.
+//! Machines with one token have one search (`folded`). Numbers that are decided alike on two machines stand once. Such are those from 424
+//! on, which Linux gives out for all machines. Blocks that ask for bits of one word are put together (`merged`). Nothing is proved of such
+//! a filter: who takes one has it checked.
 ghost use Rattle.std.specs.Prelude.{◌↔◌, IfOk, IfSome, IsTrue, OnOk};
 ghost use Rattle.profile.specs.Policy.{IsClear};
 ghost use Rattle.rule_compile.specs.inner.Code.{Grows, IsTarget};

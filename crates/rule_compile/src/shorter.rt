@@ -72,8 +72,8 @@ fn without_others(alloc: Global, own: &Planned) -> Result<Option<Shorter>, Alloc
     }
 }
 
-/// A filter that is shorter than the compiler's own of the profile, if one is found: one in which the machines of Linux that it
-/// lists share what they can, blocks that ask for bits of one word are put together, and each instruction is reached.
+/// A filter that is shorter than the compiler's own of the profile, if one is found. In it the machines of Linux that the
+/// profile lists share what they can. Blocks that ask for bits of one word are put together, and each instruction is reached.
 pub fn shorten(
     alloc: Global,
     profile: &Profile,

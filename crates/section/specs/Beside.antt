@@ -1,5 +1,5 @@
--- What stands in a section beside its profile: the flags with which a runtime loads the filter, and where its listener is (OCI Runtime
--- Specification 1.2.0, config-linux, Seccomp). No verdict depends on them.
+-- What stands in a section beside its profile. These are the flags with which a runtime loads the filter, and where its listener is
+-- (OCI Runtime Specification 1.2.0, config-linux, Seccomp). No verdict depends on them.
 use Rattle.std.specs.Prelude.{ℕ, ◌≡◌, ◌⊎◌, List, [], ◌∷◌, ◌++◌, codes}
 use Rattle.std.specs.List.{flat_map}
 use Rattle.json.specs.Json.{Json, null, boolean, number, string, array, object}

@@ -1,5 +1,6 @@
-//! What stands in a file that is taken as a bundle: a bundle, the section that engines take as a profile, or an engine's own
-//! profile, from which it works sections out; and what stands in a bundle and is not read, or is no part of its profile.
+//! What stands in a file that is taken as a bundle. It is a bundle, the section that engines take as a profile, or an
+//! engine's own profile, from which it works sections out. Also what stands in a bundle and is not read, or is no part of
+//! its profile.
 #![tactic(auto)]
 
 mod beside;

@@ -62,8 +62,8 @@ fn bundle_of(alloc: Global, bytes: Vec<u8>) -> Result<Vec<u8>, AllocError>
     taken_as(alloc, kind, bytes)
 }
 
-/// The bundle of a file of these bytes, which is read for a native machine: the bytes themselves, or the bundle in which the
-/// section stands that they are. For the machines of the chosen lists a section is none.
+/// The bundle of a file of these bytes, which is read for a native machine. It is the bytes themselves, or the bundle in
+/// which the section stands that they are. For the machines of the chosen lists a section is none.
 pub fn bundle_text(alloc: Global, native: Arch, bytes: Vec<u8>) -> Result<Vec<u8>, AllocError>
     ensures { IfOk result (λ text. IsBundleText native bytes.items text.items) }
 {

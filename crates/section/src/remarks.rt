@@ -41,8 +41,9 @@ fn line_of_text(alloc: Global, bytes: &[u8]) -> Result<Option<&'static str>, All
     Ok(line_of(kind))
 }
 
-/// The line that says what a text is that is read as a bundle for a native machine, but is neither a bundle nor a section. The
-/// bytes may be those of a file or of the bundle as which they are taken. For the machines of the chosen lists there is none.
+/// The line that says what a text is. The text is read as a bundle for a native machine, but is neither a bundle nor a
+/// section. The bytes may be those of a file or of the bundle as which they are taken. For the machines of the chosen lists
+/// there is none.
 pub fn remark_of(
     alloc: Global,
     native: Arch,

@@ -8,8 +8,8 @@ use Rattle.script.specs.Numbers.{IsNumber}
 use Rattle.processes.specs.declared.outcome.Response.{Response}
 use Rattle.processes.specs.declared.outcome.Response.TheVariants.{Value, Error, Continue}
 
--- the words of a response: a value of 64 bits; an error of Linux (errno(3)), of which the greatest is 4095; or that the
--- call is carried out
+-- The words of a response. It is a value of 64 bits, or an error of Linux (errno(3)), of which the greatest is 4095. Or
+-- it is that the call is carried out.
 abbrev pub Says : List ℕ → Response → Type 0
 Says words (Value n) = (digits : List ℕ) × (words ≡ codes "value " ++ digits) × IsNumber digits n
 Says words (Error n) = (digits : List ℕ) × (words ≡ codes "error " ++ digits) × IsNumber digits n × (1 ≤ n) × (n ≤ 4095)

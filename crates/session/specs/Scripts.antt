@@ -41,7 +41,7 @@ abbrev pub HasReadWhole : Bundles → Option (List ℕ) → Option (List ℕ) �
 HasReadWhole bundles old new commands = HasRead bundles ended_lines old new commands ⊎ HasReadAll bundles old new commands
 
 -- The whole source was read, and its answer was written. Here and below: the bytes that are left in the source, before
--- and after, and those that the sink holds, before and after, where they are known.
+-- and after. Then those that the sink holds, before and after. They stand there if they are known.
 abbrev pub IsAnswered : Bundles → Option (List ℕ) → Option (List ℕ) → Option (List ℕ) → Option (List ℕ) → Type 0
 IsAnswered bundles left left' held held' =
     (commands : List (Option Command)) × HasReadAll bundles left left' commands × Appends held held' (answer_of by_profile commands)

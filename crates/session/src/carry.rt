@@ -91,8 +91,8 @@ fn unless_answered<'a, 'c>(
     }
 }
 
-// The command that is asked for, with the bytes of its program and what a listener responds: none where it names no bundle
-// that is there, nor where a response stands beside no call.
+// The command that is asked for, with the bytes of its program and what a listener responds. There is none if it names no
+// bundle that is there, or if a response stands beside no call.
 fn command_of<'a, 'c, 'r: 'c>(
     bundles: &Bundles<'a>,
     request: &Request<'r>,

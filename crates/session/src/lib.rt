@@ -1,7 +1,7 @@
 //! Sessions: the lines of a script, carried out in order and each answered by a line.
 //!
-//! [`run_script`] reads a script from a source, hands each line that is a command to a [`Runtime`](lifecycle::Runtime), and
-//! writes the reply before it reads on.
+//! The function [`run_script`] reads a script from a source. It hands each line that is a command to a
+//! [`Runtime`](lifecycle::Runtime), and writes the reply before it reads on.
 #![tactic(auto)]
 
 mod answer;

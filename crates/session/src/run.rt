@@ -69,8 +69,8 @@ fn take_all<I: Source, O: Sink>(
 /// Carries out the lines of a script in order, and answers each by a line, which is written before more is read.
 ///
 /// Where it is done, the whole source was read and its answer was written. A failing source leaves the answer of the whole
-/// lines before; a failing sink a beginning of the answer, and nothing more is read; want of memory the answer of the
-/// lines before, and nothing at all where the line is 0. The source is asked for one byte a call.
+/// lines before. A failing sink leaves a beginning of the answer, and nothing more is read. Want of memory leaves the
+/// answer of the lines before, and nothing at all if the line is 0. The source is asked for one byte a call.
 pub fn run_script<I: Source, O: Sink>(
     alloc: Global,
     bundles: &Bundles<'_>,

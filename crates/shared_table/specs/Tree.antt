@@ -1,4 +1,4 @@
--- A tree of filters. Each names the one below it, which stands before it, and its place is its load number; the list of a
+-- A tree of filters. Each names the one below it, which stands before it, and its place is its load number. The list of a
 -- task is the way down from the place that the task holds.
 use Rattle.std.specs.Prelude.{ℕ, ◌≡◌, ◌<◌, ◌≤◌, ◌^◌, Bool, true, List, [], ◌∷◌, ◌++◌, Option, Some, None, get_or, length, map, slice_get}
 use Rattle.std.specs.List.{list_all}
@@ -42,8 +42,8 @@ filters_on way = map (λ k. program_filter k.0 k.1) way
 abbrev pub all_allow : ℕ → Way → ℕ → Bool
 all_allow arch way nr = list_all (λ k. is_fixed_allow k.1 arch nr) way
 
--- what a filter keeps is what it and all below it have: how many they are, how much room they take, and the numbers
--- below 512 that all of them allow on the machine with this token
+-- What a filter keeps is what it and all below it have. It keeps how many they are and how much room they take. It also
+-- keeps the numbers below 512 that all of them allow on the machine with this token.
 pub record IsKept (arch : ℕ) (way : Way) (n : Node) : Type 0 where
   pub depth : n.depth ≡ length way
   pub size : n.size ≡ size_beside (filters_on way)

@@ -76,8 +76,8 @@ impl Tree {
         Some((node.depth - self.depth_at(to), to))
     }
 
-    // Where a filter in front of a place jumps to: as far as the next two jumps together, where they are of one length,
-    // and else to the place. So a filter on the way down is come to in some logarithm of its depth of steps.
+    // Where a filter in front of a place jumps to. It jumps as far as the next two jumps together if they are of one
+    // length, and else to the place. So a filter on the way down is come to in some logarithm of its depth of steps.
     fn jump_from(&self, place: u32) -> u32
         requires { place < length self.now.nodes.items }
         ensures within { result < length self.now.nodes.items }

@@ -1,7 +1,7 @@
 -- Which calls the kernel answers without running a filter (kernel/seccomp.c, since Linux 5.11). When a filter is loaded, the
--- kernel asks it about each number of its table (seccomp_cache_prepare_bitmap): it carries the filter out by the number and
--- the machine's token alone (seccomp_is_const_allow). Where that ends in ALLOW, it lets the call through from then on, and
--- does not run the filter.
+-- kernel asks it about each number of its table (seccomp_cache_prepare_bitmap). It carries the filter out by the number and the
+-- machine's token alone (seccomp_is_const_allow). Where that ends in ALLOW, it lets the call through from then on, and does not
+-- run the filter.
 use Rattle.std.specs.Prelude.{ℕ, ◌≡◌, ◌==◌, ◌||◌, Bool, true, false, if◌then◌else◌, List, [], ◌∷◌, map, Option, Some, None}
 use Rattle.bpf_insn.specs.declared.instruction.Insn.{Insn}
 use Rattle.bpf_insn.specs.declared.code.Operand.TheVariants.{K}

@@ -291,7 +291,7 @@ fn costs_text(alloc: Global, native: Arch, program: &Program<'_>) -> Result<Stri
     Ok(text)
 }
 
-/// Tells what a filter costs the calls of a native machine: how many the kernel answers without running it, and how
+/// Tells what a filter costs the calls of a native machine. This is how many the kernel answers without running it, and how
 /// many instructions the others run. Of a filter that the kernel refuses it tells the cause.
 pub fn costs(alloc: Global, native: Arch, filter: &[u8]) -> Result<Told, AllocError>
     ensures { IfOk result (IsCosted filter.now) }

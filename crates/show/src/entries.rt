@@ -53,7 +53,7 @@ fn name_of(rule: &Rule) -> &'static str
     }
 }
 
-// Adds the name of a rule's call, unless it is the one that was added last, and gives the name that is the last one then.
+// Adds the name of a rule's call, unless it is the one that was added last. Returns the name that is the last one then.
 fn put_name(text: &mut String, last: &'static str, rule: &Rule) -> Result<&'static str, AllocError>
     ensures { (more : List TheRule) → IfOk result (λ now. string_bytes text.new ++ spec.names_behind now.now more
         ≡ string_bytes text.old ++ spec.names_behind last.now (rule.now ∷ more)) }

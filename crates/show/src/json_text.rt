@@ -1,5 +1,5 @@
-//! JSON texts before they are read: where and why a text is none, which key stands twice, and a text without the members that
-//! nobody reads.
+//! JSON texts before they are read: where and why a text is none, and which key stands twice. Also a text without the members
+//! that nobody reads.
 mod fault;
 mod frames;
 mod known;

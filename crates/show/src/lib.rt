@@ -1,4 +1,4 @@
-//! Bundles and filters described: what a bundle means or where it is wrong, what the lines of a filter mean, and what it costs a call.
+//! Bundles and filters described: what a bundle means or where it is wrong. Also what the lines of a filter mean, and what it costs a call.
 #![tactic(auto)]
 
 mod annotating;

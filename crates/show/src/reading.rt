@@ -349,8 +349,8 @@ fn read_text(alloc: Global, native: Arch, bundle: &[u8]) -> Result<Told, AllocEr
     }
 }
 
-/// Tells what a bundle, which is read for a native machine, means: its machines, what is said of calls that no entry
-/// matches, a line for each entry, and the flags and the listener. Of a bundle that is refused, why, and the place of the fault. Behind it
+/// Tells what a bundle, which is read for a native machine, means. This is its machines, what is said of calls that no entry matches, a
+/// line for each entry, and the flags and the listener. Of a bundle that is refused, it is why, and the place of the fault. Behind it
 /// stands a line for each member that is not read.
 pub fn read_out(alloc: Global, native: Arch, bundle: &[u8]) -> Result<Told, AllocError>
     ensures { IfOk result (spec.IsReadOut native bundle.now) }

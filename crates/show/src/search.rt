@@ -12,8 +12,9 @@ pub(crate) struct Found<'a> {
     pub(crate) asked: Shape,
 }
 
-/// A fault that is looked for, by its number, in a bundle for the machines of a family, or in an engine's configuration, as it is
-/// once what can be mended is. There a member that is null is as good as missing, and no edition or list of names is missed.
+/// A fault that is looked for, by its number. It is looked for in a bundle for the machines of a family. Or it is in an engine's
+/// configuration, as that is once what can be mended is. There a member that is null is as good as missing, and no edition or list of names
+/// is missed.
 #[derive(Clone, Copy)]
 pub(crate) struct Wanted {
     pub(crate) number: u32,

@@ -46,8 +46,8 @@ pub(crate) fn with_beside(
     with_lines(told, &lines)
 }
 
-/// What was told of a bundle, and behind it a line for each member of its section that is not read, and for each key that stands
-/// twice.
+/// What was told of a bundle, and lines behind it. There is one for each member of its section that is not read, and for each key that
+/// stands twice.
 pub fn with_unread(
     alloc: Global,
     native: Arch,

@@ -2,8 +2,8 @@
 use Rattle.std.specs.Prelude.{ℕ, Bool, false, List, [], ◌∷◌, if◌then◌else◌, slice_index_or}
 use Rattle.widths.specs.Reads.{cut_bits}
 
--- how many of the lowest bits of argument j are kept: those that are read, or all where no more is compared; and 0 of an argument
--- that is not asked for
+-- How many of the lowest bits of argument j are kept. It is those that are read, or all if no more is compared. Of an argument that is not
+-- asked for it is 0.
 abbrev pub bits_at : List Bool → ℕ → ℕ → ℕ → ℕ
 bits_at places token nr j = if slice_index_or places j false then cut_bits token nr j else 0
 

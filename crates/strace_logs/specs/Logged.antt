@@ -6,7 +6,7 @@ use Rattle.strace_logs.specs.Line.{CallParts, call_in, words_of_call}
 use Rattle.wording.specs.Lines.{lines_of}
 use Rattle.strace_logs.specs.declared.logs.Log.{Log}
 
--- a call that a line of a log tells: its machine, its record, the name of the log, the number of the line, and the line
+-- A call that a line of a log tells. It is its machine, its record, the name of the log, the number of the line, and the line.
 pub record Logged : Type 0 where
   pub arch : Arch
   pub words : List ℕ

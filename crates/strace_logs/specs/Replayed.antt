@@ -26,7 +26,7 @@ use Rattle.wording.specs.Understood.{IsReadAs}
 
 -- ---- which calls are refused
 
--- a call that is not carried out: its machine and number, the verdict that is said of it, and why; and where a log shows it
+-- A call that is not carried out: its machine and number, the verdict that is said of it, and why. Also, where a log shows it.
 pub record Refused : Type 0 where
   pub arch : Arch
   pub nr : ℕ
@@ -132,7 +132,7 @@ pub record Replays (native : Arch) (bundle : List ℕ) (logs : List (List ℕ ×
   pub tells : told.bytes.items ≡ replay_text policy rules ends unused (calls_in native logs)
   pub done : (told.done ≡ true) ↔ All (TextIsThrough native policy) (map (λ log. log.1) logs)
 
--- the bundle is refused, or a file that is no log; or the logs, each by its name and its text, were played through the bundle
+-- The bundle is refused, or a file that is no log. Or the logs, each by its name and its text, were played through the bundle.
 abbrev pub TellsReplayed : Arch → Bool → List ℕ → List (List ℕ × List ℕ) → Told → Type 0
 TellsReplayed native unused bundle logs told =
     RefusesBundle native bundle told ⊎ (RefusesLog native logs told ⊎ Replays native bundle logs unused told)

@@ -30,7 +30,8 @@ rest_word Enosys = errno + 38
 rest_word Log = log
 rest_word Kill = kill_process
 
--- One thing that words ask for: a log by its name, a call of which values are kept, a runtime, what becomes of the other calls.
+-- One thing that words ask for. It is a log by its name, a call of which values are kept, a runtime, or what becomes of the
+-- other calls.
 pub data Item : Type 0 where
   Reads : List ℕ → Item
   Keeps : List ℕ → Item

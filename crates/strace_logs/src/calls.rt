@@ -40,7 +40,8 @@ impl Seen {
     }
 }
 
-/// Values of a call's arguments: which of those asked for it is, of how many of the lowest bits, and the values, 0 where none is kept.
+/// Values of a call's arguments: which of those asked for it is, of how many of the lowest bits, and the values. A value is 0 if none is
+/// kept.
 #[derive(Clone, Copy, PartialEq, Eq)]
 pub(crate) struct Kept {
     pub(crate) keep: usize,

@@ -80,8 +80,8 @@ pub(crate) fn is_kept(keeps: &[Keep<'_>], name: &str) -> bool {
 /// An argument of which all bits are kept.
 pub(crate) const WHOLE: u32 = 64;
 
-// How many of the lowest bits of an argument are kept: those that are read, or all (64) where no more is compared; and 0 of an
-// argument that is not asked for.
+// How many of the lowest bits of an argument are kept. It is those that are read, or all (64) if no more is compared. Of an
+// argument that is not asked for it is 0.
 fn bits_at(places: &[bool; 6], token: u32, nr: u32, place: usize) -> u32
     requires { place < 6 }
     ensures { result ≡ spec.bits_at places.now token nr place }

@@ -37,8 +37,8 @@ fn refused(alloc: Global, what: &str, name: &str, why: &str) -> Result<Told, All
     })
 }
 
-// The bundle whose text means a profile, if the profile allows each call that was gathered, names no other calls than it may, and
-// has the default that was asked for.
+// The bundle whose text means a profile. It is returned if the profile allows each call that was gathered and names no other calls than it
+// may. It must also have the default that was asked for.
 fn weighed(
     alloc: Global,
     profile: &Profile,

@@ -32,8 +32,8 @@ pub enum Otherwise {
     Kill,
 }
 
-/// Calls that programs need and that a log may lack: those that end a program, those that the kernel makes it repeat and those
-/// behind a signal's handler; what a node without a vDSO asks for the time; what `abort` calls.
+/// Calls that programs need and that a log may lack. They are those that end a program, those that the kernel makes it repeat
+/// and those behind a signal's handler. They are also what a node without a vDSO asks for the time, and what `abort` calls.
 pub(crate) const NEEDED: &[&str] = &[
     "clock_gettime",
     "clock_gettime64",
@@ -65,7 +65,7 @@ pub(crate) const FALLBACKS: &[&str] = &[
     "statx",
 ];
 
-/// What crun calls between the load of a filter and the program; without `no_new_privs` it loads before it gives up rights, and
+/// What crun calls between the load of a filter and the program. Without `no_new_privs` it loads before it gives up rights, and
 /// before it waits for `start`.
 pub(crate) const OF_CRUN: &[&str] = &[
     "capset",

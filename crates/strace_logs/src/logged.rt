@@ -12,7 +12,7 @@ use call_tables::Arch;
 use std::alloc::AllocError;
 use wording::split_line;
 
-/// A call that a line of a log tells: its machine, its record, the name of the log, the number of the line, from 1, and the line.
+/// A call that a line of a log tells. It is its machine, its record, the name of the log, the number of the line, from 1, and the line.
 #[derive(Clone, Copy)]
 pub(crate) struct LogCall<'a> {
     pub(crate) arch: Arch,

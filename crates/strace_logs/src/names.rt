@@ -5,8 +5,8 @@ use crate::lists::{FALLBACKS, NEEDED, Otherwise, Runtime, THREADS, is_in, of_fir
 use call_tables::Arch;
 use std::alloc::{AllocError, Global};
 
-/// The names that a bundle allows whatever the arguments, in order, and those that are added, each list for its reason; and the
-/// names that fail with ENOSYS.
+/// The names that a bundle allows whatever the arguments, in order. Also those that are added, each list for its reason, and
+/// the names that fail with ENOSYS.
 #[derive(Drop)]
 pub(crate) struct Names {
     pub(crate) allowed: Vec<&'static str>,

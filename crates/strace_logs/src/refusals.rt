@@ -16,8 +16,8 @@ use std::alloc::{AllocError, Global};
 use std::fmt::Write;
 use wording::{ActionText, Reason, reason_of};
 
-/// A call that is not carried out: its machine and number, the number of the verdict that is said of it, and why; and the log, the
-/// number of the line and the line that show it.
+/// A call that is not carried out: its machine and number, the number of the verdict that is said of it, and why. Also the log, the number
+/// of the line and the line that show it.
 #[derive(Clone, Copy)]
 pub(crate) struct RefusedCall<'a> {
     arch: Arch,

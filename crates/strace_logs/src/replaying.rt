@@ -134,8 +134,8 @@ fn replayed(
     Ok(told)
 }
 
-/// Tells each call of logs that a bundle, which is read for a native machine, refuses: the verdict, why, how often, and the line
-/// that shows it first; and where it is asked for, what of the bundle no record matches. It is done just where nothing is refused.
+/// Tells each call of logs that a bundle, which is read for a native machine, refuses. It tells the verdict, why, how often, and the line
+/// that shows it first. If it is asked for, it also tells what of the bundle no record matches. It is done just where nothing is refused.
 pub fn replay(
     alloc: Global,
     native: Arch,

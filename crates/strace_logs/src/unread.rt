@@ -6,7 +6,7 @@ use std::fmt::Write;
 // How many lines that are not read are told.
 const MOST_TOLD: u64 = 10;
 
-/// Lines that tell no call, and are none of those that strace writes beside them: how many there are, and the first of them with
+/// Lines that tell no call, and are none of those that strace writes beside them. It keeps how many there are, and the first of them with
 /// the name of their log and their number.
 #[derive(Drop)]
 pub(crate) struct Unread {

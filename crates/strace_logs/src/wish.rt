@@ -9,8 +9,8 @@ use crate::lists::{Otherwise, Runtime};
 use call_tables::Arch;
 use std::alloc::{AllocError, Global};
 
-/// The files of logs, the calls of which values are kept, the runtime whose own calls are added, what becomes of the calls that no log
-/// shows, and machines that are listed besides those of the logs.
+/// The files of logs, the calls of which values are kept, and the runtime whose own calls are added. Also what becomes of the calls that no
+/// log shows, and machines that are listed besides those of the logs.
 #[derive(Drop)]
 pub struct Wish<'a> {
     pub logs: Vec<&'a str>,
@@ -69,7 +69,7 @@ fn is_mark(word: &str) -> bool
     word == "keep" || word == "for" || word == "else"
 }
 
-// Adds what a word asks for, by the mark before it, and gives the mark that it is: none at all where it asks for nothing.
+// Adds what a word asks for, by the mark before it. Returns the mark that it is, or none at all if it asks for nothing.
 fn put_word<'a>(
     native: Arch,
     wish: &mut Wish<'a>,

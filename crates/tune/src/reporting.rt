@@ -11,8 +11,8 @@ fn decimal(alloc: Global, hundredths: u64) -> Result<String, AllocError> {
     format!(in alloc; "{whole}.{tenths}{rest}")
 }
 
-/// The line, without a line feed, that reports how many instructions a counted call executes in the filter of `export` and in this one, and
-/// how many the two have.
+/// The line, without a line feed, that reports how many instructions a counted call executes in the filter of `export` and in this one. It
+/// also reports how many the two have.
 pub fn report(alloc: Global, tuned: &Tuned) -> Result<String, AllocError> {
     let before = decimal(alloc, tuned.before.hundredths)?;
     let after = decimal(alloc, tuned.after.hundredths)?;

@@ -25,7 +25,7 @@ pub record IsLow (low : ℕ) (c d : Cond) : Type 0 where
   pub value : d.value ≡ c.value % 2 ^ low
   pub datum : d.datum ≡ c.datum % 2 ^ low
 
--- The parts of conditions. Of the high bits of a number a condition under a mask asks what is under the high bits of the mask, and any
+-- The parts of conditions. Of the high bits of a number a condition under a mask asks what is under the high bits of the mask. Any
 -- other asks whether they are at least the high bits of its value, and whether they are above them. Of the lowest bits of a number each
 -- asks the same as of the whole, with the lowest bits of its own numbers.
 pub data AreParts (low : ℕ) : List Cond → List Cond → List Cond → Type 0 where

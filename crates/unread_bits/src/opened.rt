@@ -1,4 +1,5 @@
-//! The rules of a profile that a record and the same with the bits at 0 that are not read may match, as far as its arguments are known.
+//! The rules of a profile that two records may match, as far as their arguments are known. These are a record and the same with the
+//! bits at 0 that are not read.
 ghost use Rattle.std.specs.Prelude.{◌≡◌, ◌==◌, ◌++◌, IfOk, filter};
 ghost use Rattle.differ.specs.OnCall.{conditions_on, is_for, on_argument, rules_for};
 ghost use Rattle.differ.specs.inner.Open.{is_met_at, met_at};

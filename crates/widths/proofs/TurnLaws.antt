@@ -1,4 +1,4 @@
--- Of two numbers one is greater just where it turns up from the other at a place: it has the same bits above, and there a 1 for a 0.
+-- Of two numbers one is greater just if it turns up from the other at a place. It has the same bits above the place, and there a 1 for a 0.
 use Rattle.std.proofs.Common.{◌≡◌, ℕ, zero, suc, ◌+◌, ◌-◌, ◌*◌, ◌/◌, ◌%◌, ◌^◌, ◌<◌, ◌≤◌, inl, inr, refl, sym, ◌∙◌, ap, subst, arith}
 use Rattle.std.specs.Prelude.{◌↔◌, bit_and}
 use Rattle.std.proofs.lemmas.Bool.{cases_lt}

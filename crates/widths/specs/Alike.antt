@@ -24,7 +24,7 @@ pub record IsCleared (r s : List ℕ) : Type 0 where
 abbrev pub SpeaksOfRead : Policy → Type 0
 SpeaksOfRead p = (r s : List ℕ) → IsRecord r → IsRecord s → Alike r s → (v : ℕ) → Says p r v ↔ Says p s v
 
--- q is the narrowed profile of p: it says of a record what p says of it with the bits at 0 that are not read
+-- q is the narrowed profile of p. It says of a record what p says of it with the bits at 0 that are not read
 abbrev pub SaysOfCleared : Policy → Policy → Type 0
 SaysOfCleared p q = (r s : List ℕ) → IsRecord r → IsRecord s → IsCleared r s → (v : ℕ) → Says q r v ↔ Says p s v
 

@@ -25,7 +25,7 @@ with_each parts cs = map (λ d. cs ++ d ∷ []) parts
 abbrev pub extended : List Cond → List (List Cond) → List (List Cond)
 extended parts css = flat_map (with_each parts) css
 
--- d is a part of a condition on its argument: it looks at the lowest bits alone, or is the condition, where the plan leaves it
+-- d is a part of a condition on its argument. It looks at the lowest bits alone, or is the condition if the plan leaves it.
 pub record IsPartOf (bits : ℕ) (d c : Cond) : Type 0 where
   pub index : c.index ≡ d.index
   pub low : bits ≤ 32 → IsLow bits d
@@ -52,8 +52,8 @@ pub record AreCut (plan : List ℕ) (rule : Rule) (parts : List Rule) : Type 0 w
   pub like : All (IsLike rule) parts
   pub combined : AreCombined plan rule.conds.items (map (λ q. q.conds.items) parts)
 
--- what is cut of the argument of a condition is what is read of it; or it is left, since all that is compared is read on a machine of
--- narrow arguments, or since the condition looks at bits alone that are read
+-- What is cut of the argument of a condition is what is read of it. Or it is left, since all that is compared is read on a machine of
+-- narrow arguments. Or it is left, since the condition looks at bits alone that are read.
 pub data SuitsAt (token nr bits : ℕ) (c : Cond) : Type 0 where
   read : bits ≡ read_bits token nr c.index → SuitsAt token nr bits c
   narrow : is_all_read token nr c.index ≡ true → 32 < bits → SuitsAt token nr bits c

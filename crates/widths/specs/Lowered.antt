@@ -54,8 +54,8 @@ IsUnfitOrder token nr c = (is_order c.op ≡ true) × (¬ Fits token nr c)
 abbrev pub HasUnfitOrder : Rule → Type 0
 HasUnfitOrder rule = Has (IsUnfitOrder (token_of rule.arch) rule.nr) rule.conds.items
 
--- d stands for the condition c of a call: it is c if the argument can have its number, and else c with the bits that are read. Where
--- all that is compared is read, on a machine of narrow arguments, c may stand for itself.
+-- d stands for the condition c of a call. It is c if the argument can have its number, and else c with the bits that are read. Where all
+-- that is compared is read, on a machine of narrow arguments, c may stand for itself.
 pub data StandsFor (token nr : ℕ) (d c : Cond) : Type 0 where
   stays : Fits token nr c → d ≡ c → StandsFor token nr d c
   left : is_all_read token nr c.index ≡ true → d ≡ c → StandsFor token nr d c

@@ -14,8 +14,8 @@ use Rattle.widths.specs.declared.told.Narrowing.{Narrowing}
 abbrev pub IsBundle : Arch → List ℕ → Policy → Type 0
 IsBundle native bytes p = (t : Data) × IsText bytes t × Means t native p
 
--- What is written means the narrowed profile of what was read, where of a value that an argument cannot have its bits that are read
--- stand: so it speaks of what is read alone. Where the arguments can have all values, it is the narrowed profile of what was read.
+-- What is written means the narrowed profile of what was read. In it the bits that are read stand for a value that an argument cannot have.
+-- So it speaks of what is read alone. Where the arguments can have all values, it is the narrowed profile of what was read.
 pub record IsWritten (native : Arch) (bundle written : List ℕ) : Type 0 where
   pub read : Policy
   pub means : IsBundle native bundle read

@@ -18,8 +18,8 @@ Answers word r rule = (rule.word ≡ word) × Matches rule r
 abbrev pub MatchesRead : Rule → Type 0
 MatchesRead rule = (r s : List ℕ) → IsRecord r → IsRecord s → Alike r s → Matches rule r → Matches rule s
 
--- The rules of the second list match a record where those of the first match it with the bits at 0 that are not read, with the
--- same verdicts.
+-- The rules of the second list match a record if those of the first match it with the bits at 0 that are not read. They have
+-- the same verdicts.
 pub record AreNarrowed (rules narrowed : List Rule) : Type 0 where
   pub answers : (r s : List ℕ) → IsRecord r → IsRecord s → IsCleared r s → (word : ℕ)
       → Has (Answers word r) narrowed ↔ Has (Answers word s) rules

@@ -18,7 +18,7 @@ pub record IsLow (bits : ℕ) (c : Cond) : Type 0 where
   pub op : c.op ≡ MaskedEq
   pub mask : c.value < 2 ^ bits
 
--- a number has one of the patterns just where its lowest bits are as asked; no pattern looks at others, and there are at most so many
+-- A number has one of the patterns just if its lowest bits are as asked. No pattern looks at others, and there are at most so many.
 pub record ArePatterns (bits most : ℕ) (asked : ℕ → Type 0) (ps : List Pattern) : Type 0 where
   pub meets : (u : ℕ) → Has (HasPattern u) ps ↔ asked (u % 2 ^ bits)
   pub low : All (λ p. p.mask < 2 ^ bits) ps

@@ -1,5 +1,5 @@
 //! How kernels read the arguments of calls, as Linux 6.18 declares them (`SYSCALL_DEFINE` and, of x32's own entries,
-//! `COMPAT_SYSCALL_DEFINE`): an `int` and the like are 32 bits, `umode_t` is 16. It is an upper bound, since a call may take a
+//! `COMPAT_SYSCALL_DEFINE`). An `int` and the like are 32 bits, `umode_t` is 16. It is an upper bound, since a call may take a
 //! `long` and look at less. That is known of `clone`, which takes the lower half of its flags (kernel/fork.c).
 use crate::Reading;
 

@@ -1,4 +1,4 @@
-//! To how many bits the arguments of a call are cut, by its name: an entry of a bundle is for all machines that have the call.
+//! To how many bits the arguments of a call are cut, by its name. An entry of a bundle is for all machines that have the call.
 use crate::arguments::cut_bits;
 use crate::narrowing::{Plan, WHOLE, WIDEST, cut_to, fits_in, sees_low, suit_call};
 use call_tables::Arch;
@@ -61,8 +61,8 @@ fn is_unfit(cond: &Cond, plan: &Plan) -> bool {
     bits <= WIDEST && !fits_in(cond, bits)
 }
 
-/// The conditions with the bits that are read of values that their arguments cannot have, or the place of the first that has none:
-/// an order.
+/// The conditions with the bits that are read of values that their arguments cannot have. Or else the place of the first condition that has
+/// no such bits: an order.
 pub(crate) fn lowered(
     alloc: Global,
     conds: &[Cond],

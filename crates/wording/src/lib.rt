@@ -1,5 +1,5 @@
-//! The words that commands share: how an action, a condition and a call are written, why a profile answers as it does, and what a
-//! command tells.
+//! The words that commands share. They tell how an action, a condition and a call are written, why a profile answers as it does,
+//! and what a command tells.
 #![tactic(auto)]
 
 mod calls;

@@ -52,7 +52,8 @@ IsFact fact (Met place own) = ⊥
 abbrev pub AreBut : (Claim → Type 0) → List Claim → List Claim → Type 0
 AreBut P last all = All (λ claim. P claim ⊎ Contains last claim) all
 
--- the first claim of a node that is not so, from one place of its chain on and up to another, is at this place, if any is
+-- The first claim of a node that is not so is at this place, if any is. It is of those from one place of its chain on and
+-- up to another.
 abbrev pub StopsAt : (Claim → Type 0) → NodeView → ℕ → ℕ → Option ℕ → Type 0
 StopsAt P node from end None = AreBut P (claims_from node end) (claims_from node from)
 StopsAt P node from end (Some at) =

@@ -6,8 +6,8 @@ use Rattle.cert_check.specs.declared.passage.Passage.{Passage}
 use Rattle.cert_check.specs.inner.Followed.{AllFollow, AreBut, FollowsBy}
 use Rattle.cert_check.specs.inner.Ways.{edge_of}
 
--- it is told whether the claims there follow from one place of the chain on and up to another, where these rules were out:
--- if so, each does or is one of the last, and if not, not each does
+-- It is told whether the claims there follow from one place of the chain on and up to another, if these rules were out. If
+-- so, each does or is one of the last. If not, not each does.
 abbrev pub RestFollows : Passage → List ℕ → List Lit → ℕ × ℕ → Bool → Type 0
 RestFollows p out known asked told =
     (IsTrue told → AreBut (FollowsBy p.profile.now out (says p.node.now).met known) (claims_from p.there.now asked.1)

@@ -13,7 +13,8 @@ use Rattle.cert_check.specs.inner.Judged.{IsAnswer}
 abbrev pub question_of : ℕ → Rule → Asked
 question_of v rule = if rule.word == v then AllYes else OneNo
 
--- it bears on the verdict if all are yes, or if none is no: so the answer tells whether it does, and that tells the answer
+-- It bears on the verdict if all are yes, or if none is no. So the answer tells whether it does, and that tells the
+-- answer.
 abbrev pub turn : Asked → Bool → Bool
 turn AllYes so = so
 turn OneNo so = not so

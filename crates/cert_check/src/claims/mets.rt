@@ -1,5 +1,5 @@
-//! The conditions that a node says to be met, by the places of their rules in the profile's order and their own, and
-//! whether one is met on the way to another.
+//! The conditions that a node says to be met, by the places of their rules in the profile's order and their own. Also
+//! whether one is met on the way to another node.
 ghost use Rattle.std.specs.Prelude.{◌≡◌, ◌↔◌, ◌+◌, ◌*◌, ◌<◌, ◌⊎◌, [], ℕ, Bool as TheBool, Contains, IsTrue, length, slice_index_or, true};
 ghost use Rattle.cert_form.specs.Views.{says};
 ghost use Rattle.cert_check.specs.inner.Claimed.{mets_of};
@@ -11,8 +11,8 @@ use cert_form::NodeView;
 use cert_state::{Facts, State};
 use profile::Profile;
 
-/// The conditions that a node says to be met, each marked at its place in a table of six for each of the first rules: a
-/// profile has at most 8,192 rules of at most six conditions. Without a node none is.
+/// The conditions that a node says to be met. Each is marked at its place in a table of six for each of the first
+/// rules. A profile has at most 8,192 rules of at most six conditions. Without a node no condition is marked.
 #[derive(Clone, Copy)]
 pub(crate) struct Mets<'t, 'a> {
     pub(crate) node: Option<NodeView<'a>>,
@@ -156,7 +156,7 @@ pub(crate) fn has_no_met(node: &NodeView<'_>) -> bool
     node.next_met(node.first_met()).is_none()
 }
 
-// Whether a condition, by the places of its rule and its own, is met: it is one of the profile's, and was met before or
+// Whether a condition, by the places of its rule and its own, is met. It is one of the profile's, and was met before or
 // is yes by what is known.
 pub(crate) fn is_met<S: State>(
     profile: &Profile,

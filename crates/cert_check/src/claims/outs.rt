@@ -1,4 +1,5 @@
-//! The rules that a node says to be out, by their places in the profile's order, and whether one is out on the way to another.
+//! The rules that a node says to be out, by their places in the profile's order. Also whether one is out on the way to another
+//! node.
 ghost use Rattle.std.specs.Prelude.{◌≡◌, ◌↔◌, ◌<◌, ◌⊎◌, [], ℕ, Bool as TheBool, Contains, IsTrue, false, replicate, slice_index_or, true};
 ghost use Rattle.cert_form.specs.Views.{says};
 ghost use Rattle.cert_check.specs.inner.Claimed.{outs_of};

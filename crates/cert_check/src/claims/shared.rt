@@ -1,4 +1,5 @@
-//! The claims of a node that are new on the way to it: its chain and that of the node before mostly share all but a few.
+//! The claims of a node that are new on the way to it. Its chain and that of the node before mostly share all claims but
+//! a few.
 ghost use Rattle.std.specs.Prelude.{◌↔◌, ◌<◌, All, Contains, IsTrue, length, slice_get};
 ghost use Rattle.std.specs.Option.{IsSomeAnd};
 ghost use Rattle.cert_form.specs.Views.{AreLast, all_claims, claims_from, claims_of, is_chained, says};
@@ -106,8 +107,8 @@ fn after_fact(fact: Option<Lit>, node: &NodeView<'_>, shared: usize) -> usize
     at
 }
 
-// The place of the first claim of a node that does not follow, from one place of its chain on and up to another, if there
-// is one.
+// The place of the first claim of a node that does not follow, if there is one. It is looked for from one place of its
+// chain on and up to another.
 fn first_open<S: State>(
     profile: &Profile,
     facts: &Facts<'_, S>,
@@ -136,8 +137,8 @@ fn first_open<S: State>(
 }
 
 impl Passage<'_> {
-    // Whether the claims there between two places of the chain follow, by these rules that were out and by a table for the
-    // conditions that the node before says to be met.
+    // Whether the claims there between two places of the chain follow. They are asked by these rules that were out. And
+    // they are asked by a table for the conditions that the node before says to be met.
     fn rest_follows_by<S: State>(
         &self,
         facts: &Facts<'_, S>,
@@ -229,8 +230,8 @@ impl Passage<'_> {
         self.rest_follows_but_for(facts, &Outs::of(self.node, &marked), asked)
     }
 
-    // The place of the chain there from which on each claim is one of the node before, of a rule and a condition that the
-    // profile has. Where `placed` does not tell that, it is behind the last one.
+    // The place of the chain there from which on each claim is one of the node before. Its rule and its condition are
+    // ones that the profile has. If `placed` does not tell that, the place is behind the last claim.
     fn shared(&self) -> usize
         ensures { All (λ claim. Contains (claims_of self.now.node.now) claim × IsPlaced self.now.profile.now claim)
             (claims_from self.now.there.now result) }
@@ -241,7 +242,7 @@ impl Passage<'_> {
         self.node.meeting(self.there)
     }
 
-    /// Whether all that the chain there claims follows. Mostly its new claims do by what is known alone: the others are
+    /// Whether all that the chain there claims follows. Mostly its new claims do by what is known alone. The others are
     /// claims of the node before, since the two chains are one from where they meet. From the first one on that does not,
     /// those that are left are asked by what the node before claims, too.
     pub(crate) fn chain_follows(&self, room: &mut Room) -> bool

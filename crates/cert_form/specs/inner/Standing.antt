@@ -142,8 +142,8 @@ pub record IsTopOfFile (bytes : List ℕ) : Type 0 where
   pub some : 1 ≤ node_count bytes
   pub few : node_count bytes ≤ 16384
 
--- what form 1 can say: no scratch value is stated, no rule is out, no condition is met, nothing is told sharply, and the
--- literals are few
+-- What form 1 can say. No scratch value is stated, no rule is out, and no condition is met. Nothing is told sharply, and
+-- the literals are few.
 pub record IsPlain (n : PlainNode) : Type 0 where
   pub no_scratch : n.regs.scratch ≡ nothing_stated
   pub none_out : n.out ≡ []

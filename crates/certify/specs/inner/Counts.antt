@@ -54,7 +54,7 @@ Exclude l m = (token nr : ℕ) → permits l token nr ≡ true → permits m tok
 abbrev pub path_cost : List Insn → ℕ → ℕ → ℕ
 path_cost p pc calls = weight p pc + 2 * calls
 
--- what a return costs, where machines from one of the list on may still be told apart: a token that is told apart costs two nodes
+-- What a return costs, if machines from one of the list on may still be told apart. A token that is told apart costs two nodes.
 abbrev pub return_cost : List Arch → ℕ → ℕ → ℕ
 return_cost machines at calls = 2 * (tokens machines - tokens (take at machines)) + 1 + 2 * calls
 

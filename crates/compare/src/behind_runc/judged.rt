@@ -32,8 +32,8 @@ pub struct Judged {
     pub evidence: Result<Evidence, Unready>,
 }
 
-// What convicts the whole filter, of a record that convicts the rest: the same, where the stub does not answer the record, and else
-// that the stub answers it, where the bundle says another verdict.
+// The counterexample to the whole filter, of a record that is one to the rest. It is the same if the stub does not answer the record. Else
+// it is that the stub answers the record, if the bundle says another verdict.
 fn of_whole(behind: &Behind<'_>, found: &Conviction) -> Option<Conviction>
     ensures { (native : TheArch) (bundle filter : List ℕ) → IsBehind filter behind.now.rest.now behind.now.answered.items
         → IsJudgement native bundle behind.now.rest.now (Ok (Convicting found.now))

@@ -94,8 +94,8 @@ fn is_vacant(token: u32, number: u32) -> bool
     token == Arch::LinuxS390.token()
 }
 
-// Whether a rule is for none of these numbers. If it is for the machine that has the first of them, and a call has that one, the rule must
-// be for a number below them.
+// Whether a rule is for none of these numbers. Suppose that it is for the machine that has the first of them, and that a call has that one.
+// Then the rule must be for a number below them.
 fn are_beyond(rule: &Rule, token: u32, numbers: Numbers) -> bool
     ensures { IsTrue result ↔ AreBeyond token numbers rule.now }
 {

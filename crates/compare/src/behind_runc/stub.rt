@@ -1,6 +1,6 @@
 //! The ENOSYS stub that runc puts in front of a container's filter, told apart from the filter.
 //!
-//! [`split`] follows each path through the first instructions of a program, on all records at once that take it.
+//! Each path through the first instructions of a program is followed by [`split`], on all records at once that take it.
 mod calls;
 mod compare;
 mod numbers;

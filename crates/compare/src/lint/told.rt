@@ -37,8 +37,8 @@ fn judged(alloc: Global, native: Arch, bundle: &[u8], profile: &Profile) -> Resu
     })
 }
 
-/// Tells which calls get past a bundle by bits that the kernel does not read, and what else in it says less than it seems to. The bundle is
-/// read for a native machine.
+/// Reports which calls get past a bundle by bits that the kernel does not read. Also reports what else in it says less than it seems to.
+/// The bundle is read for a native machine.
 pub fn lint(alloc: Global, native: Arch, bundle: &[u8]) -> Result<Told, AllocError>
     ensures { IfOk result (spec.IsLinted native bundle.now) }
 {

@@ -174,8 +174,8 @@ pub(crate) fn are_implied(all: &[Cond], conds: &[Cond]) -> bool
     true
 }
 
-/// Whether the first of two rules matches all that the second matches: each of its conditions holds of all numbers that meet one of
-/// the second's.
+/// Whether the first of two rules matches all that the second matches. It does if each of its conditions holds of all numbers that meet one
+/// of the second's.
 pub(crate) fn covers(a: &Rule, b: &Rule) -> bool
     ensures { IsTrue result → Covers a.now b.now }
 {

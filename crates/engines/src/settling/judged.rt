@@ -101,8 +101,8 @@ fn settles(
     each_gives_way(choice, rules, winners, kept, after)
 }
 
-/// Whether a profile says of each record what the rule says that counts, where each rule gives way to the one whose place is told
-/// for it. False is no promise.
+/// Whether a profile says of each record what the rule says that counts. Each rule gives way to the one whose place is told for it. False
+/// is no promise.
 pub fn is_settled(
     alloc: Global,
     choice: Choice,

@@ -51,8 +51,8 @@ fn default_may(profile: &Profile, token: u32, nr: u32, action: Word) -> bool
     false
 }
 
-/// Whether a profile may give an action to a call: by one of the rules for the call, or as its default, unless a rule is for the call
-/// whatever its arguments are.
+/// Whether a profile may give an action to a call. It may by one of the rules for the call, or as its default. The default does not count
+/// if a rule is for the call whatever its arguments are.
 pub(crate) fn may_answer(profile: &Profile, token: u32, nr: u32, action: Word) -> bool
     ensures { result ≡ spec.may_answer profile.now token nr action }
 {

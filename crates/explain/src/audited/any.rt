@@ -49,7 +49,7 @@ fn explanation(
     Ok(text)
 }
 
-/// Tells what a bundle, which is read for a native machine, says of a call whatever its arguments: each entry that has a rule for
+/// Tells what a bundle, which is read for a native machine, says of a call whatever its arguments. It tells each entry that has a rule for
 /// it, with its conditions, and the default.
 pub fn explain_any(
     alloc: Global,

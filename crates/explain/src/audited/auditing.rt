@@ -244,9 +244,9 @@ fn audited(alloc: Global, native: Arch, bundle: &[u8], lines: &[u8]) -> Result<T
     Ok(told)
 }
 
-/// Tells of each call that lines of a kernel's audit show, as dmesg, journald, auditd and `ausearch -i` write them, what it was, whether
-/// a bundle, which is read for a native machine, may answer so, and what the bundle says of it. It is done where the bundle may answer
-/// so in each line of a filter's answer, and each is read.
+/// Tells what each call was that lines of a kernel's audit show, as dmesg, journald, auditd and `ausearch -i` write them. Also tells
+/// whether a bundle, which is read for a native machine, may answer so, and what the bundle says of it. It is done where the bundle may
+/// answer so in each line of a filter's answer, and each is read.
 pub fn audit(alloc: Global, native: Arch, bundle: &[u8], lines: &[u8]) -> Result<Told, AllocError>
     ensures { IfOk result (spec.IsAudited native bundle.now lines.now) }
 {

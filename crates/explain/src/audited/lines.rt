@@ -84,8 +84,8 @@ pub(crate) fn is_of(rule: &Rule, token: u32, nr: u32) -> bool
     rule.nr == nr
 }
 
-// Adds the line of the rule at a place, if it is for a call and its entry is not the one that was told last; and gives the entry
-// that is the last one then.
+// Adds the line of the rule at a place, if it is for a call and its entry was not the last one told. Returns the entry that is the last one
+// then.
 fn put_if_of(
     text: &mut String,
     all: &EntryRules,

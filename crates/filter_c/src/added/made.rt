@@ -49,8 +49,9 @@ fn rules_of(alloc: Global, given: &[AddedRule]) -> Result<Vec<Rule>, AddedError>
 }
 
 /// The profile for these machines, by their numbers, that says of each call record what the rules say. The native machine is
-/// one of them. The causes of an error are looked for in this order, and the first is told: the native machine, the machines,
-/// the rules one by one, whether all their machines are listed, how many there are, and which of them overlap.
+/// one of them. The causes of an error are looked for in order, and the first is reported. The order is: the native machine,
+/// the machines, the rules one by one. Then come whether all their machines are listed, how many there are, and which of them
+/// overlap.
 pub fn profile_of(
     alloc: Global,
     native: u32,

@@ -68,8 +68,8 @@ fn on_a_search(
     }
 }
 
-// The record that convicts a filter, where the paths told one: a record beside the rules, since a call of the tables says the most,
-// or else the one that they told.
+// The record that is a counterexample to a filter, if the paths returned one. It is a record beside the rules, since a call of the tables
+// says the most. Or else it is the one that the paths returned.
 fn on_record(
     alloc: Global,
     profile: &Profile,
@@ -147,8 +147,8 @@ fn in_its_order(
     }
 }
 
-// The evidence where the paths are too many to follow each: long lists of numbers, as libseccomp's for x86-64 and x32, are followed by
-// the outline of the compiler's filter.
+// The evidence if the paths are too many to follow each. Long lists of numbers, as libseccomp's for x86-64 and x32, are followed by the
+// outline of the compiler's filter.
 fn of_many_paths(
     alloc: Global,
     profile: &Profile,
@@ -236,14 +236,14 @@ fn valid_shows(profile: &Profile, program: &Accepted<'_>)
     program.program();
 }
 
-/// The evidence on a filter: a certificate that it gives each call record the verdict that the profile says, to which the checker
-/// says yes, or a record on which the two differ.
+/// The evidence on a filter. It is a certificate that the filter gives each call record the verdict that the profile says, to which the
+/// checker says yes. Or it is a record on which filter and profile differ.
 ///
 /// A filter that the compiler makes of a profile with conditions is certified by the compiler's outline. Of any other filter each path is
-/// followed once, until it is certified, or a record is met on which it is wrong. Then a record beside the rules is told in the place of
-/// that one, if there is one, and a call of the tables before all others. Where the paths are too many, the certificate by the outline of
-/// the compiler's own filter is tried, and the one by the order in which the filter asks. Then, or where some comparison does not tell all
-/// that it asks, a search may still find a record.
+/// followed once, until it is certified, or a record is met on which it is wrong. Then a record beside the rules is returned in the place
+/// of that one, if there is one. A call of the tables comes before all others. If the paths are too many, the certificate by the outline of
+/// the compiler's own filter is tried. So is the one by the order in which the filter asks. Then, or where some comparison does not tell
+/// all that it asks, a search may still find a record.
 #[tactic(auto, using(crate::proofs::RightLaws::judged_of_telling, crate::proofs::RightLaws::shows_right))]
 pub fn judge(
     alloc: Global,

@@ -2,19 +2,19 @@
 ghost use Rattle.maker.specs.evidence.Right.{CompiledIsRight, ShapeIsRight};
 ghost use Rattle.maker.specs.evidence.Tables.{TableProfilesArePlain};
 
-/// A profile without conditions, for machines with two tokens at most and x32 beside x86-64 alone, whose calls stand in tables
-/// of small numbers, is one that `certify` promises a certificate for.
+/// Take a profile without conditions, for machines with two tokens at most and x32 beside x86-64 alone. Its calls stand in
+/// tables of small numbers. For such a profile `certify` promises a certificate.
 pub fn table_profiles_are_plain()
     ensures { TableProfilesArePlain }
 {}
 
-/// A filter that has the shape of the filters of a profile without conditions is right: the kernel's machine gives each
-/// call record the verdict that the profile says.
+/// A filter that has the shape of the filters of a profile without conditions is right. The kernel's machine gives each call
+/// record the verdict that the profile says.
 pub fn shape_is_right()
     ensures { ShapeIsRight }
 {}
 
-/// A filter of the compiler is right in the checker's terms: on each call record it gives the verdict that the profile says,
+/// A filter of the compiler is right in the checker's terms. On each call record it gives the verdict that the profile says,
 /// and no other.
 pub fn compiled_is_right()
     ensures { CompiledIsRight }

@@ -117,7 +117,7 @@ pub(crate) fn by_same_outline(
     }
 }
 
-/// The certificate of a filter that anyone made, written from the outline of the compiler's: a filter that asks for the same in another
+/// The certificate of a filter that anyone made, written from the outline of the compiler's. A filter that asks for the same in another
 /// order may have one.
 pub(crate) fn by_compilers_outline(
     alloc: Global,
@@ -136,8 +136,8 @@ pub(crate) fn by_compilers_outline(
     }
 }
 
-/// The certificate of a filter that anyone made, in the parts in which the filter itself asks for rules: it may be made of the same rules
-/// in another order.
+/// The certificate of a filter that anyone made, in the parts in which the filter itself asks for rules. The filter may be made of the same
+/// rules in another order.
 pub(crate) fn by_its_order(
     alloc: Global,
     profile: &Profile,

@@ -137,8 +137,8 @@ impl Chains {
         }
     }
 
-    // The same behind the beginning of a chain, as far as it states some of the claims; and whether what comes after that
-    // states none of them.
+    // The same behind the beginning of a chain, as far as it states some of the claims. Also returns whether what comes after
+    // that states none of them.
     fn begun_as(
         &mut self,
         alloc: Global,
@@ -161,8 +161,8 @@ impl Chains {
         Ok(chain)
     }
 
-    /// A chain of what a node states, what lasts and what passes, in whatever order it shares much with those that are there: it begins as that of a node
-    /// before, or else as one that is found claim by claim.
+    /// A chain of what a node states: what lasts and what passes. It has whatever order shares much with the chains that are there. It
+    /// begins as that of a node before, or else as one that is found claim by claim.
     pub fn of(
         &mut self,
         alloc: Global,
@@ -185,8 +185,8 @@ impl Chains {
         self.with_left(&begun)
     }
 
-    /// A chain of all these claims, without those that follow from others of it: behind another one, with these that are lacking
-    /// there; or as one that is found claim by claim, where that is shorter.
+    /// A chain of all these claims, without those that follow from others of it. It goes on behind another one, with these that are lacking
+    /// there. If one that is found claim by claim is shorter, it is that one.
     pub fn behind(
         &mut self,
         alloc: Global,

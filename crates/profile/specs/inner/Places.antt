@@ -1,5 +1,5 @@
--- Where the rules of a list stand by machine and number: for each call the greatest place of a rule for it, and
--- for each place the next less one for the same call.
+-- Where the rules of a list stand by machine and number. Each call has the greatest place of a rule for it, and each
+-- place the next less one for the same call.
 use Rattle.std.specs.Prelude.{◌≡◌, ℕ, List, length, Option, Some, None, slice_get, slice_index_or}
 use Rattle.std.specs.declared.cmp.Ordering.{Ordering}
 use Rattle.std.specs.Ordering.{nat_cmp, ordering_then}

@@ -24,7 +24,7 @@ use Rattle.rule_compile.specs.inner.Replies.{AreAlike}
 abbrev pub IsOffset : ℕ → Type 0
 IsOffset word = (word % 4 ≡ 0) × (word < 64)
 
--- a question of an argument: where it goes on with the low word, this stands in front of the high one and is asked for whole
+-- A question of an argument. If it goes on with the low word, this stands in front of the high one and is asked for whole.
 pub record IsQuestion (q : Question) : Type 0 where
   pub offset : IsOffset q.subject.word
   pub high : (low : ℕ) → q.low ≡ Some low → (4 ≤ q.subject.word) × (q.subject.mask ≡ 0xffffffff) × (low < 2 ^ 32)

@@ -92,8 +92,8 @@ abbrev pub behind : List Numbers → ℕ → ℕ
 behind all zero = 0
 behind all (suc k) = (slice_index_or all k (from_to 0 0)).last + 1
 
--- the ranges of a machine's numbers so far, up to the end of so many stretches of foreign ones: one at most while there are more
--- stretches
+-- The ranges of a machine's numbers so far, up to the end of so many stretches of foreign ones. There is one range at most while there are
+-- more stretches.
 pub record Between (policy : Policy) (machine : Arch) (k upto : ℕ) (ranges : List Range) : Type 0 where
   pub tiles : Tiles 0 ranges upto
   pub has_verdicts : IsPlain policy → IsListed policy machine → All (HasVerdict (said_of policy (token_of machine))) ranges

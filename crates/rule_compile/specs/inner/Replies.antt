@@ -16,8 +16,8 @@ IsReply q r (reply.Open other) = IsMet other r ↔ IsMet q r
 abbrev pub reply_of : Bool → Reply
 reply_of met = if met then reply.Met else reply.NotMet
 
--- two numbers of the bits that are asked for get one reply: they are on one side of the number that is asked for, and both
--- or none is this number, where that makes a difference
+-- Two numbers of the bits that are asked for get one reply. They are on one side of the number that is asked for. If it makes a
+-- difference, both or none is this number.
 abbrev pub AreAlike : Question → ℕ → ℕ → Type 0
 AreAlike q n u =
     (nat_le q.number n ≡ nat_le q.number u)

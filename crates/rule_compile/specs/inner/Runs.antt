@@ -73,8 +73,8 @@ LeadsByBits blocks code subject ranges to =
     All (λ x. (a : ℕ) (r : List ℕ) (v : ℕ) → IsRecord r → IsWithin x (bits subject r) → Decides blocks r v x.leaf
     → runs code to a r ≡ Some v) ranges
 
--- single numbers are picked out of ranges: from the target on, each record gets what its range decides, and where A holds a number of none
--- of them what the rest decides
+-- Single numbers are picked out of ranges. From the target on, each record gets what its range decides. If A holds a number of none of the
+-- ranges, the record gets what the rest decides.
 pub record PicksOut (blocks : List Block) (code : List Insn) (loaded : Option ℕ) (ranges : List Range) (rest : Range) (to : Target)
     : Type 0 where
   pub led : AreLed blocks code loaded ranges to

@@ -113,8 +113,8 @@ abbrev pub TellsCalls : Policy → ℕ → List Insn → Target → Type 0
 TellsCalls policy token code to =
     (a : ℕ) (r : List ℕ) → IsRecord r → slice_index r 1 ≡ token → runs code to a r ≡ Some (said policy r)
 
--- from the target on, where A holds the token, each call of one of the machines gets its verdict, and any other that of a
--- foreign record
+-- At the target A holds the token. From there on, each call of one of the machines gets its verdict, and any other that of a
+-- foreign record.
 pub record TellsThese (policy : Policy) (machines : List Arch) (code : List Insn) (to : Target) : Type 0 where
   pub listed : (r : List ℕ) → IsRecord r → IsOneOf machines (slice_index r 1) → runs code to (slice_index r 1) r ≡ Some (said policy r)
   pub foreign : (r : List ℕ) → IsRecord r → (IsOneOf machines (slice_index r 1) → ⊥) → runs code to (slice_index r 1) r ≡ Some 0
@@ -128,8 +128,8 @@ abbrev pub IsSaidBy : List Rule → ℕ → List ℕ → ℕ → Type 0
 IsSaidBy rules default r word =
     ((rule : Rule) × Contains rules rule × Matches rule r × (rule.word ≡ word)) ⊎ (All (λ x. Matches x r → ⊥) rules × (word ≡ default))
 
--- of a record of a number of the machine with the token this verdict is said, whatever it asks for: each rule that it matches
--- has it, and it is the default verdict unless one does
+-- Each record of this number, of the machine with the token, has this verdict, whatever it asks for. Each rule that the record
+-- matches has it. If the record matches no rule, it is the default verdict.
 abbrev pub SaysNumber : List Rule → ℕ → ℕ → ℕ → ℕ → Type 0
 SaysNumber rules token number default word =
     (r : List ℕ) → IsRecord r → slice_index r 1 ≡ token → slice_index r 0 ≡ number → IsClearOn rules r → IsSaidBy rules default r word
@@ -158,7 +158,8 @@ pub record AreThoseBehind (rules : List Rule) (token number : ℕ) (next : Optio
 abbrev pub HaveNoCondition : List Placed → Type 0
 HaveNoCondition own = All (λ placed. placed.rule.now.conds.items ≡ []) own
 
--- what decides a number, by the rules for it: the verdict of one that has no condition, or the default one where it is that of each
+-- What decides a number, by the rules for it. It is the verdict of one that has no condition. Or it is the default one, if that is the
+-- verdict of each.
 pub data IsLeafOf (own : List Placed) (default : ℕ) (to : Leaf) : Type 0 where
   by_rule : (placed : Placed) → Contains own placed → placed.rule.now.conds.items ≡ [] → to ≡ leaf.Verdict placed.rule.now.word
       → IsLeafOf own default to

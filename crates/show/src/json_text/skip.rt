@@ -23,7 +23,8 @@ fn first_of(is_object: bool) -> Awaited {
     }
 }
 
-// A value as far as it was passed over: which of what is open in it are objects, the outermost first, and how many are open.
+// A value as far as it was passed over. It has which of what is open in it are objects, the outermost first, and how many are
+// open.
 #[derive(Drop)]
 struct Passed {
     are_objects: [bool; DEEPEST],

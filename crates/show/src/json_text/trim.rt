@@ -14,7 +14,7 @@ pub struct Doubled {
     pub second: (usize, usize),
 }
 
-/// A text with 0 for the members under keys that are not read, and the first key that is read and stands twice in one object.
+/// A text with 0 for the members under keys that are not read. Also the first key that is read and stands twice in one object.
 #[derive(Drop)]
 pub struct Trimmed {
     pub text: Vec<u8>,
@@ -72,7 +72,7 @@ impl<'a> Trimmer<'a> {
         Ok(())
     }
 
-    // Reads a key, which is written with a 0 behind it if it is none of those that are read: then its value is passed over.
+    // Reads a key, and writes it. If it is none of those that are read, a 0 is written behind it, and its value is passed over.
     fn take_key(
         &mut self,
         alloc: Global,

@@ -13,8 +13,8 @@ use Rattle.strace_logs.specs.Wish.{rest_word}
 abbrev pub AreSeen : Arch → List (List ℕ) → List Seen → Type 0
 AreSeen native texts calls = All (λ call. IsSeen native texts call.arch call.nr) calls
 
--- the bytes are those of the text, and the profile that it means allows each record, names no other calls than it may, and has the
--- default that was asked for
+-- The bytes are those of the text. The profile that it means allows each record, names no other calls than it may, and has the default that
+-- was asked for.
 pub record IsWeighed (native : Arch) (policy : Policy) (texts : List (List ℕ)) (runtime : Option Runtime) (otherwise : Otherwise)
     (text bytes : List ℕ) : Type 0 where
   pub same : bytes ≡ text

@@ -1,4 +1,5 @@
--- Which rules are still open for a record and for the same with the bits at 0 that are not read, once some arguments are known.
+-- Which rules are still open for two records, once some arguments are known. These are a record and the same with the bits at 0
+-- that are not read.
 use Rattle.std.specs.Prelude.{◌≡◌, ℕ, ◌^◌, ◌%◌, ◌++◌, ◌⊎◌, List, filter}
 use Rattle.call_record.specs.Words.{IsRecord}
 use Rattle.profile.specs.declared.conditions.Cond.{Cond}

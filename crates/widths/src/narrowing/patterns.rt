@@ -19,7 +19,7 @@ pub(crate) fn power_of_two(place: u32) -> u64
     1 << place
 }
 
-// The numbers of so many bits that turn up or down from a value at a place: they have its bits above, and there the other one.
+// The numbers of so many bits that turn up or down from a value at a place. They have its bits above, and there the other one.
 fn turn_at(bits: u32, value: u64, up: bool, down: bool, place: u32) -> Option<Pattern>
     requires small { bits ≤ 32 }
     requires within { place < bits }
@@ -43,7 +43,8 @@ fn turn_at(bits: u32, value: u64, up: bool, down: bool, place: u32) -> Option<Pa
     None
 }
 
-/// The patterns of numbers of so many bits that are above a value, or below it, or both: one for each place at which they turn.
+/// The patterns of numbers of so many bits that are above a value, or below it, or both. There is one for each place at which
+/// they turn.
 #[tactic(auto, unfolding(crate::specs::Patterns::turns))]
 pub(crate) fn turns(
     alloc: Global,

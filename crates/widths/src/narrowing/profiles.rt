@@ -77,8 +77,8 @@ fn same_word(a: Word, b: Word) -> bool
     a == b
 }
 
-/// Whether a profile is seen to be the narrowed one of another with other rules: it has its machines, its default and the narrowed
-/// ones of these rules.
+/// Whether a profile is seen to be the narrowed one of another with other rules. It has to have the machines of the other, its default and
+/// the narrowed ones of these rules.
 pub fn is_narrowed_of(profile: &Profile, own: &[Rule], narrowed: &Profile, rules: &[Rule]) -> bool
     requires { AreNarrowed own.now rules.now }
     ensures { IsTrue result → IsNarrowed (with_rules profile.now own.now) narrowed.now }

@@ -45,7 +45,7 @@ fn suits_at(token: u32, nr: u32, bits: u32, cond: &Cond) -> bool
     sees_low(cond, read)
 }
 
-/// Whether the arguments of a call may be cut so under these conditions: to what is read of each, or not at all where no condition
+/// Whether the arguments of a call may be cut so under these conditions. Each is cut to what is read of it, or not at all if no condition
 /// sees more.
 pub fn suit_call(token: u32, nr: u32, conds: &[Cond], plan: &[u32; 6]) -> bool
     ensures { IsTrue result → All (λ c. SuitsAt token nr (slice_index plan.now c.index) c) conds.now }

@@ -1,4 +1,4 @@
--- The calls so far and those of the lines that are left are those of the text, and the number is that of the next line.
+-- The calls so far and those of the lines that are left are those of the text. The number is that of the next line.
 use Rattle.std.proofs.Common.{◌≡◌, ◌+◌, ◌++◌, ◌≤◌, length}
 use Rattle.wording.specs.Lines.{lines_of}
 use Rattle.strace_logs.specs.Logged.{calls_from, calls_of}

@@ -1,4 +1,4 @@
--- Those so far and those that are left are the different ones, and whatever is the same as one so far is the same as one of them.
+-- Those so far and those that are left are the different ones. Whatever is the same as one so far is the same as one of them.
 use Rattle.std.proofs.Common.{◌≡◌, ◌≤◌, ◌++◌, [], drop, length, take}
 use Rattle.explain.specs.Audit.{firsts_behind}
 use Rattle.explain.specs.inner.Events.{HaveSame}
