@@ -6,8 +6,6 @@ use Rattle.std.proofs.lemmas.List.Elements.{All-cons, All-nil}
 use Rattle.serde_json.specs.Data.{Data}
 use Rattle.call_record.specs.Words.{IsRecord}
 use Rattle.call_tables.specs.declared.arch.Arch.{Arch}
-use Rattle.bpf_insn.specs.Bytes.{insns_of}
-use Rattle.bpf_insn.specs.Machine.{verdict_of}
 use Rattle.profile.specs.Policy.{Policy, Says}
 use Rattle.profile.specs.Said.{said}
 use Rattle.profile.proofs.SaidLaws.{each_record_is_said_one_verdict}

@@ -1,1 +1,2 @@
 pub mod Stack
+pub mod Uncombined

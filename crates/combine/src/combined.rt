@@ -1,5 +1,6 @@
 //! From bundles to the one that means what they mean together.
-ghost use Rattle.std.specs.Prelude.{IfOk, map, string_bytes};
+ghost use Rattle.std.specs.Prelude.{IfOk, IfErr, map, string_bytes};
+ghost use Rattle.combine.specs.Uncombined.{IsUncombined};
 ghost use Rattle.together.specs.Combined.{IsCombined};
 
 use crate::draft::drafted;
@@ -16,7 +17,8 @@ pub fn combine(
     way: Way,
     bundles: &[Vec<u8>],
 ) -> Result<String, Uncombined>
-    ensures { IfOk result (λ made. IsCombined native way (map (λ b. b.items) bundles.now) (string_bytes made)) }
+    ensures combined { IfOk result (λ made. IsCombined native way (map (λ b. b.items) bundles.now) (string_bytes made)) }
+    ensures reason { IfErr result (IsUncombined native way (map (λ b. b.items) bundles.now)) }
 {
     let profiles = profiles_of(alloc, native, bundles)?;
     let bundle = drafted(alloc, native, way, &profiles)?;

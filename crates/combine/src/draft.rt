@@ -1,4 +1,8 @@
 //! What is written of profiles before it is judged.
+ghost use Rattle.std.specs.Prelude.{[], IfErr, List};
+ghost use Rattle.profile.specs.Policy.{Policy};
+ghost use Rattle.combine.specs.Uncombined.{IsUndrafted};
+
 use crate::product::product;
 use crate::uncombined::Uncombined;
 use bpf_insn::{Insn, MAX_INSNS, encode_into};
@@ -17,7 +21,9 @@ fn insns_of(alloc: Global, profile: &Profile) -> Result<Vec<Insn>, AllocError> {
 }
 
 // The bundle that says a filter.
-fn bundle_of(alloc: Global, native: Arch, insns: &[Insn]) -> Result<String, Uncombined> {
+fn bundle_of(alloc: Global, native: Arch, insns: &[Insn]) -> Result<String, Uncombined>
+    ensures { (ps : List Policy) → IfErr result (IsUndrafted native ps) }
+{
     if insns.len() > MAX_INSNS {
         return Err(Uncombined::TooLong);
     }
@@ -31,7 +37,9 @@ fn bundle_of(alloc: Global, native: Arch, insns: &[Insn]) -> Result<String, Unco
 }
 
 // The instructions of the filter of a bundle that was written.
-fn insns_again(alloc: Global, native: Arch, bundle: &str) -> Result<Vec<Insn>, Uncombined> {
+fn insns_again(alloc: Global, native: Arch, bundle: &str) -> Result<Vec<Insn>, Uncombined>
+    ensures { (ps : List Policy) → IfErr result (IsUndrafted native ps) }
+{
     match read_bundle(alloc, bundle.as_bytes(), native) {
         Ok(Bundle { profile }) => Ok(insns_of(alloc, &profile)?),
         Err(ProfileError::OutOfMemory) => Err(Uncombined::OutOfMemory),
@@ -45,21 +53,18 @@ pub(crate) fn drafted(
     native: Arch,
     way: Way,
     profiles: &[Profile],
-) -> Result<String, Uncombined> {
-    let mut found: Option<String> = None;
-    for profile in profiles {
+) -> Result<String, Uncombined>
+    ensures { IfErr result (IsUndrafted native profiles.now) }
+{
+    let Some((first, others)) = profiles.split_first() else {
+        return Err(Uncombined::Nothing);
+    };
+    let mut bundle = bundle_of(alloc, native, &insns_of(alloc, first)?)?;
+    for profile in others {
         let own = insns_of(alloc, profile)?;
-        let insns = match &found {
-            Some(bundle) => {
-                let before = insns_again(alloc, native, bundle)?;
-                product(alloc, way, &before, &own)?
-            }
-            None => own,
-        };
-        found = Some(bundle_of(alloc, native, &insns)?);
+        let before = insns_again(alloc, native, &bundle)?;
+        let insns = product(alloc, way, &before, &own)?;
+        bundle = bundle_of(alloc, native, &insns)?;
     }
-    match found {
-        Some(bundle) => Ok(bundle),
-        None => Err(Uncombined::Nothing),
-    }
+    Ok(bundle)
 }

@@ -1,4 +1,8 @@
 //! Why bundles or filters are not combined.
+ghost use Rattle.std.specs.Prelude.{◌≡◌};
+ghost use Rattle.combine.specs.Uncombined.{reason_of};
+ghost use Rattle.combine.specs.declared.uncombined.Uncombined.TheVariants.{OutOfMemory};
+
 use differ::Call;
 use profile_json::ProfileError;
 use recover::Unsaid;
@@ -29,18 +33,24 @@ pub enum Uncombined {
 }
 
 impl From<AllocError> for Uncombined {
+    ghost from_gives = { λ _ e. e ≡ OutOfMemory };
+
     fn from(_error: AllocError) -> Uncombined {
         Uncombined::OutOfMemory
     }
 }
 
 impl<T: Drop> From<AllocFailed<T>> for Uncombined {
+    ghost from_gives = { λ _ e. e ≡ OutOfMemory };
+
     fn from(_error: AllocFailed<T>) -> Uncombined {
         Uncombined::OutOfMemory
     }
 }
 
 impl From<Unjudged> for Uncombined {
+    ghost from_gives = { λ unjudged e. e ≡ reason_of unjudged };
+
     fn from(error: Unjudged) -> Uncombined {
         match error {
             Unjudged::Refused(place, error) => Uncombined::Refused(place, error),

@@ -1,1 +1,3 @@
 pub mod RecoveredLaws
+pub mod UnsayableLaws
+pub mod AlikeLaws

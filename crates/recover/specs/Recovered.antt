@@ -15,3 +15,7 @@ pub record IsRecovered (native : Arch) (bundle filter : List ℕ) : Type 0 where
   pub program : view_fault filter ≡ None
   pub accepted : IsAccepted (insns_of filter)
   pub right : IsRight policy (insns_of filter)
+
+-- no bundle's meaning is the filter's
+abbrev pub IsUnsayable : Arch → List ℕ → Type 0
+IsUnsayable native filter = (bundle : List ℕ) → ¬ IsRecovered native bundle filter

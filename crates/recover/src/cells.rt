@@ -168,8 +168,8 @@ pub(crate) fn push_under(
     Ok(())
 }
 
-/// Adds the parts of a cell by the highest bit under a mask that is another than these: those where it is set, those where it is not, or
-/// all.
+/// Adds the parts of a cell by the highest bit under a mask that is another than these. They are those where it is set, those where it
+/// is not, or all.
 pub(crate) fn push_unlike(
     found: &mut Vec<Cell>,
     cell: Cell,

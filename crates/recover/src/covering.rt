@@ -102,7 +102,7 @@ fn drop_bits(argument: &Argument, aim: &Aim, mask: u64, bits: u64, number: u64) 
     }
 }
 
-// The condition that as few bits of a number as can be are as they are: bits are let go one by one, the lowest first or the highest.
+// The condition that as few bits of a number as can be are as they are. Bits are let go one by one, the lowest first or the highest.
 fn widened(argument: &Argument, aim: &Aim, number: u64, is_low_first: bool) -> Option<Cond> {
     let mut mask = argument.mask;
     mask = drop_bits(argument, aim, mask, u64::MAX << 32, number);
@@ -115,6 +115,21 @@ fn widened(argument: &Argument, aim: &Aim, number: u64, is_low_first: bool) -> O
         };
         let bit = 1u64.wrapping_shl(place);
         mask = drop_bits(argument, aim, mask, bit, number);
+    }
+    masked_fit(argument, aim, mask, number)
+}
+
+// The condition that the highest bits of a number are as they are, as few as can be. It holds of numbers in a row, so two such conditions
+// mostly hold of no number both: whoever asks them has few cases to look at.
+fn in_a_row(argument: &Argument, aim: &Aim, number: u64) -> Option<Cond> {
+    let mut mask = drop_bits(argument, aim, argument.mask, u64::MAX << 32, number);
+    for place in 0..64u32 {
+        let bit = 1u64.wrapping_shl(place);
+        let fewer = drop_bits(argument, aim, mask, bit, number);
+        if mask & bit != 0 && fewer == mask {
+            break;
+        }
+        mask = fewer;
     }
     masked_fit(argument, aim, mask, number)
 }
@@ -169,6 +184,7 @@ fn best_of(
     }
     if best.cond.is_none() {
         let number = piece.least;
+        best.try_with(in_a_row(argument, aim, number), piece, left);
         best.try_with(widened(argument, aim, number, true), piece, left);
         best.try_with(widened(argument, aim, number, false), piece, left);
     }

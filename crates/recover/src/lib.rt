@@ -1,8 +1,8 @@
 //! What profile does a filter have? The section of a bundle whose meaning is the filter's on each call record, or what no section says.
 //!
 //! Each number of a call is followed through the filter, and the comparisons that it may meet tell which arguments stand for all others.
-//! The filter's verdicts on these are put into entries, as few as are easily found. None of this is trusted: what is written is read again,
-//! and handed out only with a certificate, to which the checker said yes, that the filter answers what it says.
+//! The filter's verdicts on these are put into entries, as few as are easily found. None of this is trusted. What is written is read again.
+//! It is handed out only with a certificate that the filter answers what it says, to which the checker said yes.
 #![tactic(auto)]
 
 mod asked;
@@ -12,6 +12,7 @@ mod classes;
 mod covering;
 mod draft;
 mod entries;
+mod law;
 mod leaves;
 mod machines;
 mod marks;
@@ -22,12 +23,14 @@ mod paths;
 mod pieces;
 mod recovered;
 mod said;
+mod seen;
 mod survey;
 mod telling;
 mod text;
 mod unlike;
 mod unsaid;
 
+pub use law::such_filters_are_no_bundles;
 pub use passed::Passed;
 pub use recovered::{draft_of, recover};
 pub use telling::line_of;

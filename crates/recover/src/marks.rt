@@ -61,7 +61,7 @@ fn push_parts(found: &mut Vec<Cell>, cell: Cell, mark: Cell) -> Result<(), Alloc
     push_under(found, inside, mark.mask, mark.datum)
 }
 
-// Adds the parts of a cell of which each has the same bits under some mask as a number, but for the lowest of these bits, and the number.
+// Adds parts of a cell, and a number. Each part has the same bits under some mask as the number, but for the lowest of these bits.
 fn push_blocks(found: &mut Vec<Cell>, cell: Cell, number: Option<u32>) -> Result<(), AllocError> {
     match number {
         Some(number) => {

@@ -9,7 +9,8 @@ use call_tables::is_narrow;
 use kernel_check::Accepted;
 use std::alloc::Global;
 
-/// A name, and what is said of its call on one machine: of those that have it one with arguments of 64 bits, if there is one.
+/// A name, and what is said of its call on one machine. Of the machines that have it, this is one with arguments of 64 bits,
+/// if there is one.
 #[derive(Drop)]
 pub(crate) struct Named {
     pub(crate) name: &'static str,

@@ -23,8 +23,8 @@ fn unnamed_in(arch: Arch, cell: Cell) -> Option<u32> {
     None
 }
 
-/// Cells of the numbers of calls with a token, such that the filter compares all numbers of a cell alike; one cell of all if these are too
-/// many.
+/// Cells of the numbers of calls with a token, such that the filter compares all numbers of a cell alike. There is one cell of all if
+/// these are too many.
 pub(crate) fn number_cells(
     alloc: Global,
     program: &Accepted<'_>,

@@ -1,13 +1,15 @@
 //! From a filter to the bundle whose meaning is the filter's.
-ghost use Rattle.std.specs.Prelude.{◌≡◌, ℕ, List, IfOk, None, string_bytes};
+ghost use Rattle.std.specs.Prelude.{◌≡◌, ℕ, List, IfOk, IfErr, None, string_bytes};
 ghost use Rattle.bpf_insn.specs.Bytes.{insns_of, view_fault};
 ghost use Rattle.call_tables.specs.declared.arch.Arch.{Arch as TheArch};
 ghost use Rattle.kernel_check.specs.Accepted.{IsAccepted};
 ghost use Rattle.maker.specs.Certified.{IsEvidenceFor, IsJudgement};
 ghost use Rattle.recover.specs.Recovered.{IsRecovered};
+ghost use Rattle.recover.specs.Unsaid.{IsUnsaid};
 
 use crate::draft::drafted;
 use crate::passed::Passed;
+use crate::seen::seen;
 use crate::unsaid::Unsaid;
 use bpf_insn::Program;
 use call_tables::Arch;
@@ -24,21 +26,27 @@ pub fn draft_of(
 ) -> Result<String, Unsaid>
     ensures program { IfOk result (λ _. view_fault filter.now ≡ None) }
     ensures accepted { IfOk result (λ _. IsAccepted (insns_of filter.now)) }
+    ensures reason { IfErr result (IsUnsaid native filter.now) }
 {
     let program = match Program::view(filter) {
         Ok(program) => program,
         Err(fault) => return Err(Unsaid::View(fault)),
     };
     match accept(&program) {
-        Ok(accepted) => drafted(alloc, native, &accepted, passed),
+        Ok(accepted) => match drafted(alloc, native, &accepted, passed) {
+            Ok(bundle) => Ok(bundle),
+            Err(found) => Err(seen(&accepted, native.family(), found)),
+        },
         Err(refused) => Err(Unsaid::Kernel(refused)),
     }
 }
 
 // The bundle, if the evidence on it and the filter is a certificate, or what convicts the filter.
 fn handed_out(evidence: Evidence, bundle: String) -> Result<String, Unsaid>
-    ensures { (native : TheArch) (filter : List ℕ) → IsEvidenceFor native (string_bytes bundle) filter evidence
+    ensures recovered { (native : TheArch) (filter : List ℕ) → IsEvidenceFor native (string_bytes bundle) filter evidence
         → IfOk result (λ text. IsRecovered native (string_bytes text) filter) }
+    ensures reason { (native : TheArch) (filter : List ℕ) → IsEvidenceFor native (string_bytes bundle) filter evidence
+        → IfErr result (IsUnsaid native filter) }
 {
     match evidence {
         Evidence::Certificate(_certificate) => Ok(bundle),
@@ -48,19 +56,23 @@ fn handed_out(evidence: Evidence, bundle: String) -> Result<String, Unsaid>
 
 // The bundle, if it was judged that the filter has a certificate, or why it is not handed out.
 fn handed_out_if_judged(judged: Result<Evidence, Unready>, bundle: String) -> Result<String, Unsaid>
-    ensures { (native : TheArch) (filter : List ℕ) → IsJudgement native (string_bytes bundle) filter judged
+    ensures recovered { (native : TheArch) (filter : List ℕ) → IsJudgement native (string_bytes bundle) filter judged
         → IfOk result (λ text. IsRecovered native (string_bytes text) filter) }
+    ensures reason { (native : TheArch) (filter : List ℕ) → IsJudgement native (string_bytes bundle) filter judged
+        → IfErr result (IsUnsaid native filter) }
 {
     match judged {
         Ok(evidence) => handed_out(evidence, bundle),
-        Err(unready) => Err(Unsaid::from(unready)),
+        Err(Unready::OutOfMemory) => Err(Unsaid::OutOfMemory),
+        Err(unready) => Err(Unsaid::Undecided(unready)),
     }
 }
 
 /// The bundle whose meaning is the filter's, or what no section says of it. What is written is read again, and handed out only with a
 /// certificate.
 pub fn recover(alloc: Global, native: Arch, filter: &[u8]) -> Result<String, Unsaid>
-    ensures { IfOk result (λ bundle. IsRecovered native (string_bytes bundle) filter.now) }
+    ensures recovered { IfOk result (λ bundle. IsRecovered native (string_bytes bundle) filter.now) }
+    ensures reason { IfErr result (IsUnsaid native filter.now) }
 {
     let bundle = draft_of(alloc, native, filter, Passed::NONE)?;
     let judged = judge_bundle(alloc, native, bundle.as_bytes(), filter);

@@ -1,4 +1,7 @@
 //! The bundle of entries.
+ghost use Rattle.std.specs.Prelude.{◌≡◌, is_some};
+ghost use Rattle.recover.specs.Unsaid.{can_be_said, has_action, takes_data};
+
 use crate::entries::Entry;
 use crate::machines::Listed;
 use call_record::Word;
@@ -6,7 +9,9 @@ use profile::{Cond, Op};
 use std::alloc::{AllocError, Global};
 
 // The name of a verdict's action in a section.
-fn action_name(word: Word) -> Option<&'static str> {
+fn action_name(word: Word) -> Option<&'static str>
+    ensures { is_some result ≡ has_action word }
+{
     match word.action() {
         Word::KILL_PROCESS => Some("SCMP_ACT_KILL_PROCESS"),
         Word::KILL_THREAD => Some("SCMP_ACT_KILL"),
@@ -21,7 +26,9 @@ fn action_name(word: Word) -> Option<&'static str> {
 }
 
 // Whether a verdict's action takes data.
-fn takes_data(word: Word) -> bool {
+fn takes_data(word: Word) -> bool
+    ensures { result ≡ takes_data word }
+{
     match word.action() {
         Word::ERRNO | Word::TRACE => true,
         _ => false,
@@ -29,7 +36,9 @@ fn takes_data(word: Word) -> bool {
 }
 
 /// Whether a section can give a verdict.
-pub(crate) fn is_given(word: Word) -> bool {
+pub(crate) fn is_given(word: Word) -> bool
+    ensures { result ≡ can_be_said word }
+{
     if action_name(word).is_none() {
         return false;
     }

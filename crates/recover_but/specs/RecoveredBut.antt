@@ -1,6 +1,6 @@
 -- What a bundle is that was made of a filter, where calls may be left aside, and what is told of these.
 use Rattle.std.specs.Prelude.{ℕ, ◌≡◌, ◌-◌, ◌==◌, ◌++◌, if◌then◌else◌, Bool, false, List, [], length, codes}
-use Rattle.std.specs.Prelude.{Result, Ok, Err}
+use Rattle.std.specs.Prelude.{⊤, Result, Ok, Err}
 use Rattle.std.specs.List.{flat_map}
 use Rattle.call_tables.specs.declared.arch.Arch.{Arch}
 use Rattle.call_tables.specs.declared.arch.Family.{Family}
@@ -12,6 +12,9 @@ use Rattle.compare.specs.declared.behind_runc.stub.calls.Calls.{Calls}
 use Rattle.compare.specs.Behind.{AreAccepted, IsBehind}
 use Rattle.compare.specs.StubTold.{calls_line, stub_text}
 use Rattle.aside.specs.declared.leave.Leave.{Leave}
+use Rattle.recover.specs.Unsaid.{IsUnsaid}
+use Rattle.recover.specs.declared.unsaid.Unsaid.{Unsaid}
+use Rattle.recover.specs.declared.unsaid.Unsaid.TheVariants as why
 use Rattle.aside.specs.Judged.{AreLeftOut, MeansRightBut, stub_calls}
 
 -- The kernel accepts the filter. The bundle means a profile for which it is right but for some calls. These are left aside, with reason,
@@ -25,6 +28,12 @@ pub record IsRecoveredBut (native : Arch) (bundle filter : List ℕ) (leave : Le
 abbrev pub IsCertified : Result Evidence Unready → Type 0
 IsCertified (Ok evidence) = IsCertificate evidence
 IsCertified (Err e) = ⊥
+
+-- What a reason says of the filter behind a stub. What came of judging a bundle that was written says no more.
+abbrev pub IsUnsaidBut : Arch → List ℕ → Unsaid → Type 0
+IsUnsaidBut native rest (why.Unlike found) = ⊤
+IsUnsaidBut native rest (why.Undecided unready) = ⊤
+IsUnsaidBut native rest other = IsUnsaid native rest other
 
 -- a line, and the lines of the calls that are left aside
 abbrev pub but_text : Family → List Calls → List ℕ

@@ -1,8 +1,9 @@
 //! The bundle of which a filter is right but for calls that are left aside.
-ghost use Rattle.std.specs.Prelude.{IfOk, string_bytes};
+ghost use Rattle.std.specs.Prelude.{◌≡◌, ℕ, IfOk, IfErr, List, string_bytes};
 ghost use Rattle.compare.specs.Behind.{IsBehind};
 ghost use Rattle.aside.specs.Judged.{stub_calls};
-ghost use Rattle.recover_but.specs.RecoveredBut.{IsCertified, IsRecoveredBut};
+ghost use Rattle.recover_but.specs.RecoveredBut.{IsCertified, IsRecoveredBut, IsUnsaidBut};
+ghost use Rattle.call_tables.specs.declared.arch.Arch.{Arch as TheArch};
 
 use aside::{But, Leave, judge_but};
 use call_tables::Arch;
@@ -20,12 +21,14 @@ pub struct Found {
 
 // Refuses a bundle if it was not judged that the filter is right.
 fn be_right(judged: &Result<Evidence, Unready>) -> Result<(), Unsaid>
-    ensures { IfOk result (λ _. IsCertified judged.now) }
+    ensures right { IfOk result (λ _. IsCertified judged.now) }
+    ensures reason { (native : TheArch) (rest : List ℕ) → IfErr result (IsUnsaidBut native rest) }
 {
     match judged {
         Ok(Evidence::Certificate(_)) => Ok(()),
         Ok(Evidence::Convicting(found)) => Err(Unsaid::Unlike(*found)),
-        Err(unready) => Err(Unsaid::from(*unready)),
+        Err(Unready::OutOfMemory) => Err(Unsaid::OutOfMemory),
+        Err(unready) => Err(Unsaid::Undecided(*unready)),
     }
 }
 
@@ -47,11 +50,14 @@ pub fn recover_but(
     leave: Leave,
 ) -> Result<Found, Unsaid>
     requires { IsBehind filter.now behind.now.rest.now behind.now.answered.items }
-    ensures { IfOk result (λ found. IsRecoveredBut native (string_bytes found.bundle) filter.now leave
+    ensures recovered { IfOk result (λ found. IsRecoveredBut native (string_bytes found.bundle) filter.now leave
         (stub_calls found.but.judged.whole behind.now.answered.items) found.but.aside.items) }
+    ensures reason { IfErr result (IsUnsaidBut native behind.now.rest.now) }
 {
     let bundle = draft_of(alloc, native, behind.rest, passed_of(leave, behind))?;
-    let but = judge_but(alloc, native, bundle.as_bytes(), filter, behind, leave)?;
+    let Ok(but) = judge_but(alloc, native, bundle.as_bytes(), filter, behind, leave) else {
+        return Err(Unsaid::OutOfMemory);
+    };
     be_right(&but.judged.evidence)?;
     Ok(Found { bundle, but })
 }

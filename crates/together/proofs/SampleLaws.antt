@@ -1,8 +1,8 @@
 -- Arguments that stand for all others.
-use Rattle.std.proofs.Common.{◌≡◌, ℕ, zero, suc, ◌+◌, ◌<◌, ◌^◌, inl, inr, List, [], ◌∷◌, length, map, get_or, set, refl, sym, ◌∙◌, ap, subst, arith}
+use Rattle.std.proofs.Common.{◌≡◌, ℕ, zero, suc, ◌+◌, ◌*◌, ◌<◌, ◌^◌, inl, inr, List, [], ◌∷◌, length, map, get_or, set, refl, sym, ◌∙◌, ap, subst, arith}
 use Rattle.std.specs.List.{All, Contains, flat_map}
 use Rattle.std.proofs.lemmas.Bool.{cases_eq}
-use Rattle.std.proofs.lemmas.List.{get_or-map, get_or-set_same, get_or-set_other, length-map, length-set}
+use Rattle.std.proofs.lemmas.List.{get_or-map, get_or-set_same, get_or-set_other, length-append, length-map, length-set}
 use Rattle.std.proofs.lemmas.Nat.{pow_pos}
 use Rattle.call_record.specs.Words.{words_from}
 use Rattle.profile.specs.declared.conditions.Cond.{Cond}
@@ -14,7 +14,8 @@ use Rattle.differ.specs.OnCall.{IsOfCall, bits_of}
 use Rattle.differ.specs.declared.named.Call.{Call}
 use Rattle.differ.proofs.WalkLaws.{argument_below, has_itself}
 use Rattle.together.specs.declared.way.Way.{Way}
-use Rattle.together.specs.OnCall.{AgreesAt, AgreesOnCall, AreArguments, AreSamples, IsLike, conditions_of, widened}
+use Rattle.together.specs.OnCall.{AgreesAt, AgreesOnCall, AreArguments, AreSamples, AreWays, IsLike, conditions_of, widened}
+use Rattle.together.specs.OnCall.AreWays.{more}
 use Rattle.together.proofs.SaidLaws.{agree_alike}
 
 -- ---- lists
@@ -86,6 +87,24 @@ widen ps q call n bits conds values samples lt width are cells old = record {
         like_set ps q call n v r args (omega arith) alike from.2,
       );
 }
+
+-- ---- how many there are
+
+pub length_widened : (n : ℕ) (values : List ℕ) (samples : List (List ℕ)) → length (widened n values samples) ≡ length samples * length values
+length_widened n values [] = omega arith
+length_widened n values (args ∷ samples) =
+    let own : List (List ℕ) = map (λ v. set args n v) values in
+    let sum : length (widened n values (args ∷ samples)) ≡ length own + length (widened n values samples) =
+    length-append own (widened n values samples) in
+    let first : length own ≡ length values = length-map values (λ v. set args n v) in
+    let rest : length (widened n values samples) ≡ length samples * length values = length_widened n values samples in
+    omega arith
+
+-- one argument more
+pub more_ways : (ps : List Policy) (q : Policy) (call : Call) (j n bits : ℕ) (conds : List Cond) (values : List ℕ) → bits ≡ bits_of call.token
+    → conds ≡ conditions_of ps q call j → AreCells conds bits values → AreWays ps q call j n → AreWays ps q call (j + 1) (n * length values)
+more_ways ps q call j n bits conds values width are cells ways =
+    more j n values ways (subst (λ cs. AreCells cs (bits_of call.token) values) are (subst (λ b. AreCells conds b values) width cells))
 
 -- ---- none yet
 

@@ -2,3 +2,4 @@ pub mod Word
 pub mod Together
 pub mod Combined
 pub mod OnCall
+pub mod Unjudged

@@ -1,14 +1,16 @@
 -- What is looked at of one call.
-use Rattle.std.specs.Prelude.{◌≡◌, ℕ, ◌<◌, ◌^◌, ◌++◌, true, List, map, length, slice_index, slice_set}
+use Rattle.std.specs.Prelude.{◌≡◌, ℕ, ◌+◌, ◌*◌, ◌<◌, ◌^◌, ◌⊎◌, ◌++◌, ⊤, true, List, map, length, slice_index, slice_set}
 use Rattle.std.specs.List.{All, Contains, flat_map, list_any}
 use Rattle.call_record.specs.Words.{IsRecord, words_from}
 use Rattle.profile.specs.declared.conditions.Cond.{Cond}
 use Rattle.profile.specs.Policy.{Policy}
 use Rattle.profile.specs.Rule.{argument_of}
 use Rattle.profile.specs.Said.{said}
-use Rattle.differ.specs.Cells.{AreAlike}
-use Rattle.differ.specs.OnCall.{IsOfCall, bits_of, conditions_on, is_for, rules_for}
+use Rattle.differ.specs.Cells.{AreAlike, AreCells, AreTooMany}
+use Rattle.differ.specs.OnCall.{IsOfCall, bits_of, conditions_on, is_for, most_combinations, rules_for}
 use Rattle.differ.specs.Named.{is_named}
+use Rattle.differ.specs.declared.listed.Unlisted.{Unlisted}
+use Rattle.differ.specs.declared.listed.Unlisted.TheVariants.{TooMany, OutOfMemory}
 use Rattle.differ.specs.declared.named.Call.{Call}
 use Rattle.together.specs.Together.{together}
 use Rattle.together.specs.declared.way.Way.{Way}
@@ -34,6 +36,23 @@ pub record AreArguments (call : Call) (args : List ℕ) : Type 0 where
 pub record AreSamples (ps : List Policy) (q : Policy) (call : Call) (n : ℕ) (samples : List (List ℕ)) : Type 0 where
   pub fit : All (AreArguments call) samples
   pub each : (r : List ℕ) → IsOfCall call.token call.nr r → (args : List ℕ) × Contains samples args × IsLike ps q call n r args
+
+-- n is the product of the numbers of ways in which the conditions on each of the first arguments can answer
+pub data AreWays (ps : List Policy) (q : Policy) (call : Call) : ℕ → ℕ → Type 0 where
+  none : AreWays ps q call 0 1
+  more : (j n : ℕ) (list : List ℕ) → AreWays ps q call j n → AreCells (conditions_of ps q call j) (bits_of call.token) list
+      → AreWays ps q call (j + 1) (n * length list)
+
+-- there are more combinations than are looked at, already for some of the arguments or for one
+abbrev pub IsCrowded : List Policy → Policy → Call → Type 0
+IsCrowded ps q call =
+    ((j : ℕ) × (n : ℕ) × AreWays ps q call j n × (most_combinations < n))
+    ⊎ ((j : ℕ) × AreTooMany (conditions_of ps q call j) (bits_of call.token))
+
+-- why there are no samples
+abbrev pub AreUnsampled : List Policy → Policy → Call → Unlisted → Type 0
+AreUnsampled ps q call TooMany = IsCrowded ps q call
+AreUnsampled ps q call OutOfMemory = ⊤
 
 -- each of these lists with each of these numbers at a place
 abbrev pub widened : ℕ → List ℕ → List (List ℕ) → List (List ℕ)

@@ -13,8 +13,8 @@ is_laxest ws v = list_all (λ w. not (is_stricter v w)) ws
 abbrev pub laxest_of : List ℕ → ℕ
 laxest_of ws = unwrap_or (find (is_laxest ws) ws) kill_process
 
--- The laxest, or the strictest: of equally strict ones the last of the list, as the kernel takes it of filters that were loaded in this
--- order (seccomp(2): the newest filter is asked first).
+-- The laxest, or the strictest. Of equally strict ones it is the last of the list, as the kernel takes it of filters that were loaded
+-- in this order (seccomp(2)). There the newest filter is asked first.
 abbrev pub word_of : Way → List ℕ → ℕ
 word_of Laxest ws = laxest_of ws
 word_of Strictest ws = strictest_of (reverse ws)

@@ -1,10 +1,14 @@
 //! Bundles, and one that means what they mean together.
-ghost use Rattle.std.specs.Prelude.{IfOk, IfNone, List, map, string_bytes};
+ghost use Rattle.std.specs.Prelude.{◌≡◌, ℕ, IfOk, IfErr, IfNone, IfSome, List, Some, map, slice_get, string_bytes, take};
 ghost use Rattle.std.specs.List.{AllZip};
 ghost use Rattle.call_tables.specs.declared.arch.Arch.{Arch as TheArch};
 ghost use Rattle.profile.specs.Policy.{Policy};
+ghost use Rattle.profile_json.specs.Breaks.{Breaks};
+ghost use Rattle.profile_json.specs.Fault.{fault_of};
 ghost use Rattle.together.specs.Combined.{IsBundle, MeansTogether};
-ghost use Rattle.together.specs.Together.{SaysTogether};
+ghost use Rattle.together.specs.Together.{IsUnlike, SaysTogether};
+ghost use Rattle.together.specs.Unjudged.{AreUnread, IsUnjudged, IsUnsettled};
+ghost use Rattle.together.specs.declared.bundles.Unjudged.TheVariants.{OutOfMemory};
 ghost use Rattle.together.specs.declared.way.Way.{Way as TheWay};
 
 use crate::judged::{Unsettled, judge};
@@ -32,39 +36,51 @@ pub enum Unjudged {
 }
 
 impl From<AllocError> for Unjudged {
+    ghost from_gives = { λ _ e. e ≡ OutOfMemory };
+
     fn from(_error: AllocError) -> Unjudged {
         Unjudged::OutOfMemory
     }
 }
 
 impl<T: Drop> From<AllocFailed<T>> for Unjudged {
+    ghost from_gives = { λ _ e. e ≡ OutOfMemory };
+
     fn from(_error: AllocFailed<T>) -> Unjudged {
         Unjudged::OutOfMemory
     }
 }
 
-// Why the bundle at a place is refused, or what was written.
-fn refused(place: Option<usize>, error: ProfileError) -> Unjudged {
-    match (error, place) {
-        (ProfileError::OutOfMemory, _) => Unjudged::OutOfMemory,
-        (error, Some(place)) => Unjudged::Refused(place, error),
-        (error, None) => Unjudged::Unread(error),
+// Why bundles are not read of which the one at a place is refused.
+fn refused_at(place: usize, error: ProfileError) -> Unjudged
+    ensures { (native : TheArch) (bundles : List (List ℕ)) (bundle : List ℕ) (before : List Policy) → slice_get bundles place ≡ Some bundle
+        → AllZip (IsBundle native) (take place bundles) before → IfSome (fault_of error) (Breaks bundle native)
+        → AreUnread native bundles result }
+{
+    if let ProfileError::OutOfMemory = error {
+        return Unjudged::OutOfMemory;
     }
+    Unjudged::Refused(place, error)
+}
+
+// Why a bundle is not handed out that is refused.
+fn unread(error: ProfileError) -> Unjudged
+    ensures { (native : TheArch) (way : TheWay) (ps : List Policy) (bundle : List ℕ) → IfSome (fault_of error) (Breaks bundle native)
+        → IsUnjudged native way ps bundle result }
+{
+    if let ProfileError::OutOfMemory = error {
+        return Unjudged::OutOfMemory;
+    }
+    Unjudged::Unread(error)
 }
 
 // The profile that a bundle means.
-fn profile_of(
-    alloc: Global,
-    native: Arch,
-    bundle: &[u8],
-    place: Option<usize>,
-) -> Result<Profile, Unjudged>
-    ensures { IfOk result (IsBundle native bundle.now) }
+fn profile_of(alloc: Global, native: Arch, bundle: &[u8]) -> Result<Profile, ProfileError>
+    ensures read { IfOk result (IsBundle native bundle.now) }
+    ensures fault { IfErr result (λ e. IfSome (fault_of e) (Breaks bundle.now native)) }
 {
-    match read_bundle(alloc, bundle, native) {
-        Ok(Bundle { profile }) => Ok(profile),
-        Err(error) => Err(refused(place, error)),
-    }
+    let Bundle { profile } = read_bundle(alloc, bundle, native)?;
+    Ok(profile)
 }
 
 /// The profiles that bundles mean.
@@ -73,12 +89,15 @@ pub fn profiles_of(
     native: Arch,
     bundles: &[Vec<u8>],
 ) -> Result<Vec<Profile>, Unjudged>
-    ensures { IfOk result (λ profiles. AllZip (IsBundle native) (map (λ b. b.items) bundles.now) profiles.items) }
+    ensures read { IfOk result (λ profiles. AllZip (IsBundle native) (map (λ b. b.items) bundles.now) profiles.items) }
+    ensures fault { IfErr result (AreUnread native (map (λ b. b.items) bundles.now)) }
 {
     let mut profiles = Vec::new(alloc);
     for bundle in bundles {
-        let place = profiles.len();
-        profiles.push(profile_of(alloc, native, bundle, Some(place))?)?;
+        match profile_of(alloc, native, bundle) {
+            Ok(profile) => profiles.push(profile)?,
+            Err(error) => return Err(refused_at(profiles.len(), error)),
+        }
     }
     Ok(profiles)
 }
@@ -88,8 +107,12 @@ fn if_settled(
     settled: Result<Option<Unlike>, Unsettled>,
     bundle: String,
 ) -> Result<String, Unjudged>
-    ensures { (native : TheArch) (way : TheWay) (ps : List Policy) (q : Policy) → IfOk settled (λ found. IfNone found (SaysTogether way ps q))
-        → IsBundle native (string_bytes bundle) q → IfOk result (λ made. MeansTogether native way ps (string_bytes made)) }
+    ensures together { (native : TheArch) (way : TheWay) (ps : List Policy) (q : Policy)
+        → IfOk settled (λ found. IfNone found (SaysTogether way ps q)) → IsBundle native (string_bytes bundle) q
+        → IfOk result (λ made. MeansTogether native way ps (string_bytes made)) }
+    ensures fault { (native : TheArch) (way : TheWay) (ps : List Policy) (q : Policy)
+        → IfOk settled (λ found. IfSome found (IsUnlike way ps q)) → IfErr settled (IsUnsettled ps q)
+        → IsBundle native (string_bytes bundle) q → IfErr result (IsUnjudged native way ps (string_bytes bundle)) }
 {
     match settled {
         Ok(None) => Ok(bundle),
@@ -107,8 +130,12 @@ pub fn if_together(
     profiles: &[Profile],
     bundle: String,
 ) -> Result<String, Unjudged>
-    ensures { IfOk result (λ made. MeansTogether native way profiles.now (string_bytes made)) }
+    ensures together { IfOk result (λ made. MeansTogether native way profiles.now (string_bytes made)) }
+    ensures fault { IfErr result (IsUnjudged native way profiles.now (string_bytes bundle)) }
 {
-    let joined = profile_of(alloc, native, bundle.as_bytes(), None)?;
+    let joined = match profile_of(alloc, native, bundle.as_bytes()) {
+        Ok(joined) => joined,
+        Err(error) => return Err(unread(error)),
+    };
     if_settled(judge(alloc, way, profiles, &joined), bundle)
 }

@@ -1,10 +1,12 @@
 //! Whether a profile says of each call record what several say together.
-ghost use Rattle.std.specs.Prelude.{◌≡◌, ℕ, true, IfOk, IfNone, IfSome};
+ghost use Rattle.std.specs.Prelude.{◌≡◌, ℕ, true, IfOk, IfErr, IfNone, IfSome};
 ghost use Rattle.call_record.specs.Record.{words};
 ghost use Rattle.call_record.specs.Words.{words_from};
 ghost use Rattle.differ.specs.Named.{is_named};
 ghost use Rattle.together.specs.Together.{IsUnlike, SaysTogether};
 ghost use Rattle.together.specs.OnCall.{AgreesOnCall};
+ghost use Rattle.together.specs.Unjudged.{IsUnsettled};
+ghost use Rattle.together.specs.declared.judged.Unsettled.TheVariants.{OutOfMemory};
 
 use crate::calls::named_calls;
 use crate::samples::samples_of;
@@ -25,12 +27,16 @@ pub enum Unsettled {
 }
 
 impl From<AllocError> for Unsettled {
+    ghost from_gives = { λ _ e. e ≡ OutOfMemory };
+
     fn from(_error: AllocError) -> Unsettled {
         Unsettled::OutOfMemory
     }
 }
 
 impl<T: Drop> From<AllocFailed<T>> for Unsettled {
+    ghost from_gives = { λ _ e. e ≡ OutOfMemory };
+
     fn from(_error: AllocFailed<T>) -> Unsettled {
         Unsettled::OutOfMemory
     }
@@ -58,6 +64,7 @@ fn unlike_in(
 ) -> Result<Option<Unlike>, Unsettled>
     ensures none { IfOk result (λ found. IfNone found (AgreesOnCall way profiles.now joined.now call.now.token call.now.nr)) }
     ensures some { IfOk result (λ found. IfSome found (IsUnlike way profiles.now joined.now)) }
+    ensures unsettled { IfErr result (IsUnsettled profiles.now joined.now) }
 {
     let samples = match samples_of(alloc, profiles, joined, call) {
         Ok(samples) => samples,
@@ -85,6 +92,7 @@ fn unlike_in_any(
     ensures none { (token nr : ℕ) → is_named calls.now token nr ≡ true
         → IfOk result (λ found. IfNone found (AgreesOnCall way profiles.now joined.now token nr)) }
     ensures some { IfOk result (λ found. IfSome found (IsUnlike way profiles.now joined.now)) }
+    ensures unsettled { IfErr result (IsUnsettled profiles.now joined.now) }
 {
     for call in calls {
         if let Some(found) = unlike_in(alloc, way, profiles, joined, call)? {
@@ -97,7 +105,8 @@ fn unlike_in_any(
 // A call of no machine.
 const FOREIGN: Call = Call { token: 0, nr: 0 };
 
-/// Whether a profile says of each call record what counts of the verdicts that several say of it, or a record of which it says another.
+/// Whether a profile says of each call record what counts of the verdicts that several say of it. If it does not, returns a record of
+/// which it says another.
 pub fn judge(
     alloc: Global,
     way: Way,
@@ -106,6 +115,7 @@ pub fn judge(
 ) -> Result<Option<Unlike>, Unsettled>
     ensures none { IfOk result (λ found. IfNone found (SaysTogether way profiles.now joined.now)) }
     ensures some { IfOk result (λ found. IfSome found (IsUnlike way profiles.now joined.now)) }
+    ensures unsettled { IfErr result (IsUnsettled profiles.now joined.now) }
 {
     let named = named_calls(alloc, profiles, joined)?;
     let rest = rest_of(alloc, &named)?;

@@ -1,6 +1,6 @@
 //! Arguments that stand for all others of a call where profiles ask about it.
-ghost use Rattle.std.specs.Prelude.{◌≡◌, ◌<◌, ◌++◌, IfOk, map, slice_set};
-ghost use Rattle.together.specs.OnCall.{AreSamples, conditions_of, own_conditions, widened};
+ghost use Rattle.std.specs.Prelude.{◌≡◌, ◌<◌, ◌++◌, IfOk, IfErr, map, slice_set};
+ghost use Rattle.together.specs.OnCall.{AreSamples, AreUnsampled, conditions_of, own_conditions, widened};
 
 use differ::{Call, MOST_COMBINATIONS, Unlisted, add_conditions, bits_of, cells, rules_for};
 use profile::{Cond, Profile};
@@ -88,7 +88,8 @@ pub(crate) fn samples_of(
     joined: &Profile,
     call: &Call,
 ) -> Result<Vec<[u64; 6]>, Unlisted>
-    ensures { IfOk result (λ list. AreSamples profiles.now joined.now call.now 6 list.items) }
+    ensures ok { IfOk result (λ list. AreSamples profiles.now joined.now call.now 6 list.items) }
+    ensures err { IfErr result (AreUnsampled profiles.now joined.now call.now) }
 {
     let mut list = Vec::new(alloc);
     list.push([0; 6])?;

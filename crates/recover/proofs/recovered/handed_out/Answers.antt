@@ -4,7 +4,11 @@ use Rattle.maker.specs.Certified.{IsEvidenceFor}
 use Rattle.recover.proofs.RecoveredLaws.{recovered_by}
 use Rattle.recover.proofs.recovered.handed_out.Goals as goal
 
-pub returns-in-Certificate : goal.returns-in-Certificate
-returns-in-Certificate c = λ native filter is.
+pub returns-in-Certificate-clause-recovered : goal.returns-in-Certificate-clause-recovered
+returns-in-Certificate-clause-recovered c = λ native filter is.
     recovered_by native (string_bytes c.args.bundle) filter c.in-Certificate._certificate.items
     (subst (IsEvidenceFor native (string_bytes c.args.bundle) filter) c.in-Certificate.is is)
+
+pub returns-in-Convicting-clause-reason : goal.returns-in-Convicting-clause-reason
+returns-in-Convicting-clause-reason c = λ native filter is.
+    (string_bytes c.args.bundle, subst (IsEvidenceFor native (string_bytes c.args.bundle) filter) c.in-Convicting.is is)

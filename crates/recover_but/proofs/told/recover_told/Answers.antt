@@ -15,7 +15,7 @@ returns c =
       asked = c.in_ok-behind.ensures.asked;
       whole = but.judged.whole;
       aside = but.aside.items;
-      recovered = c.in_ok-bundle.ensures;
+      recovered = c.in_ok-bundle.ensures.recovered;
       told = lines_told c.family.result (family_of c.args.native) c.family.ensures c.args.runc
           (length c.args.filter.now - length behind.rest.now) behind.answered.items but.judged.whole but.aside.items c.deref.result.now
           c.deref.ensures.value (string_bytes c.in_ok-lines.lines) c.in_ok-lines.ensures;

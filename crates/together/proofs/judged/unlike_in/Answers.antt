@@ -24,6 +24,6 @@ pub returns-clause-none : goal.returns-clause-none
 returns-clause-none c =
     let items : List (List ℕ) = c.deref-args-items.result.now in
     by_samples c.args.way c.args.profiles.now c.args.joined.now c.args.call.now items
-    (subst (AreSamples c.args.profiles.now c.args.joined.now c.args.call.now 6) (sym c.deref-args-items.ensures.value) c.in-Ok.ensures)
+    (subst (AreSamples c.args.profiles.now c.args.joined.now c.args.call.now 6) (sym c.deref-args-items.ensures.value) c.in-Ok.ensures.ok)
     (All-same (AgreesAt c.args.way c.args.profiles.now c.args.joined.now c.args.call.now) _ _ (sym (take_all c.loop-args.args-index items (omega arith)))
     c.loop-args.invariant)
