@@ -19,14 +19,14 @@ pub(crate) fn insn(code: u16, k: u32) -> Insn
 }
 
 /// The return of a number.
-pub(crate) fn return_of(k: u32) -> Insn
+pub fn return_of(k: u32) -> Insn
     ensures { result ≡ spec.return_of k }
 {
     insn(0x06, k)
 }
 
 /// Whether an instruction returns its own number.
-pub(crate) fn is_return(insn: &Insn) -> bool
+pub fn is_return(insn: &Insn) -> bool
     ensures { result ≡ is_return insn.now }
 {
     match insn.operation() {

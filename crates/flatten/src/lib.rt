@@ -14,5 +14,7 @@ mod turns;
 mod unflat;
 
 pub use flattened::flatten;
+pub use insns::{is_return, return_of};
+pub use plain::plain_insns;
 pub use telling::line_of;
 pub use unflat::Unflat;

@@ -38,8 +38,8 @@ fn listed(alloc: Global, program: &Program<'_>) -> Result<Vec<Insn>, AllocError>
     Ok(all)
 }
 
-/// The instructions of the filter at a place.
-pub(crate) fn plain_insns(alloc: Global, filter: &[u8], place: usize) -> Result<Vec<Insn>, Unflat>
+/// The instructions of the filter at a place, none of which writes a scratch word or returns what A holds.
+pub fn plain_insns(alloc: Global, filter: &[u8], place: usize) -> Result<Vec<Insn>, Unflat>
     ensures filter { IfOk result (λ _. IsFilter filter.now) }
     ensures same { IfOk result (λ all. all.items ≡ insns_of filter.now) }
     ensures plain { IfOk result (λ all. spec.ArePlain all.items) }

@@ -7,7 +7,6 @@
 mod guard;
 mod insns;
 mod made;
-mod plain;
 mod turned;
 mod unguarded;
 

@@ -6,11 +6,11 @@ ghost use Rattle.other_calls.specs.Guarded.{IsGuarded};
 ghost use Rattle.other_calls.specs.inner.Guard as spec;
 
 use crate::guard::guard;
-use crate::plain::plain_insns;
 use crate::turned::base_of;
 use crate::unguarded::Unguarded;
 use bpf_insn::{Insn, MAX_INSNS, encode_into};
 use call_tables::Arch;
+use flatten::plain_insns;
 use std::alloc::{AllocError, Global};
 
 // The program that is made of another, which has fewer instructions.
@@ -53,9 +53,9 @@ pub fn guarded(alloc: Global, machines: &[Arch], filter: &[u8]) -> Result<Vec<u8
     ensures accepted { IfOk result (λ _. IsAccepted (insns_of filter.now)) }
     ensures guarded { IfOk result (λ made. IsGuarded machines.now (insns_of filter.now) (insns_of made.items)) }
 {
-    let program = match plain_insns(alloc, filter) {
+    let program = match plain_insns(alloc, filter, 0) {
         Ok(program) => program,
-        Err(why) => return Err(why),
+        Err(why) => return Err(Unguarded::from(why)),
     };
     match made_of(alloc, machines, &program) {
         Ok(made) => spelled(alloc, &made),

@@ -2,9 +2,10 @@
 ghost use Rattle.std.specs.Prelude.{◌≡◌, ◌++◌, IfOk};
 ghost use Rattle.other_calls.specs.inner.Guard as spec;
 
-use crate::insns::{insn, is_return, return_of};
+use crate::insns::insn;
 use bpf_insn::Insn;
 use call_record::Word;
+use flatten::{is_return, return_of};
 use std::alloc::{AllocError, Global};
 
 // KILL_THREAD in the place of ALLOW, and ALLOW in the place of all else.

@@ -1,5 +1,6 @@
 //! Why no such filter is made.
 use bpf_insn::ViewError;
+use flatten::Unflat;
 use kernel_check::Refused;
 use std::alloc::{AllocError, AllocFailed};
 
@@ -27,5 +28,17 @@ impl From<AllocError> for Unguarded {
 impl<T: Drop> From<AllocFailed<T>> for Unguarded {
     fn from(_error: AllocFailed<T>) -> Unguarded {
         Unguarded::OutOfMemory
+    }
+}
+
+impl From<Unflat> for Unguarded {
+    fn from(error: Unflat) -> Unguarded {
+        match error {
+            Unflat::Bytes(_only, fault) => Unguarded::View(fault),
+            Unflat::Refused(_only, refused) => Unguarded::Kernel(refused),
+            Unflat::Unplain(_only, at) => Unguarded::Unplain(at),
+            Unflat::Made | Unflat::TooLong => Unguarded::TooLong,
+            Unflat::OutOfMemory => Unguarded::OutOfMemory,
+        }
     }
 }

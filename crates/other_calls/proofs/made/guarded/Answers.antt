@@ -18,5 +18,5 @@ returns-in-Ok-made_of-clause-guarded c =
     ∙ ap (λ (q : List Insn). guard machines (length q + 1) (base q)) same in
     if_ok c.spelled.result (λ bytes. insns_of bytes.items ≡ c.deref-in-Ok-made_of.result.now)
     (λ bytes. IsGuarded machines p (insns_of bytes.items))
-    (λ bytes h. guarded_is machines p (insns_of bytes.items) plain c.in-Ok.ensures.accepted (h ∙ made))
+    (λ bytes h. guarded_is machines p (insns_of bytes.items) plain c.in-Ok.ensures.filter.1 (h ∙ made))
     c.spelled.ensures
