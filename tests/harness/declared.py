@@ -15,7 +15,7 @@ FUNCTIONS = {
 }
 
 # Machines that read a call as another one does, where the page has a line for that one alone.
-ALIKE = {"riscv64": "aarch64", "ppc64le": "aarch64"}
+ALIKE = {"riscv64": "aarch64"}
 
 # Types of 32 bits and of 16. All others that are no pointers are whole.
 NARROW = {
@@ -35,7 +35,7 @@ def of_page():
             if line.startswith("#"):
                 continue
             words = line.split()
-            count = 2 if words[0] in ("x32", "aarch64", "x86", "s390x") else 1
+            count = 2 if words[0] in ("x32", "aarch64", "ppc64le", "x86", "s390x") else 1
             lines[" ".join(words[:count])] = " ".join(words[count:])
     return lines
 
@@ -64,8 +64,9 @@ def of_kernel(folder):
 
 
 def is_declared(name, told, line):
-    """Whether a line of the page is what the kernel declares. Of clone's flags, a long, Linux takes the lower half (kernel/fork.c)."""
-    return told == line or (name == "clone" and told.replace("32", "64") == line)
+    """Whether a line of the page is what the kernel declares. Of clone's flags, a long, Linux takes the lower half (kernel/fork.c), and of
+    the number of ipc, an int, 16 bits (ipc/syscall.c)."""
+    return told == line or (name == "clone" and told.replace("32", "64") == line) or (name == "ipc" and told.replace("16", "32") == line)
 
 
 def unlike(page, kernel, machine):

@@ -421,6 +421,12 @@ pub(crate) const X86_CALLS: &[(&str, [Reading; 6])] = &[("ipc", [M, I, I, I, P, 
 /// Calls that are read otherwise on AArch64: the order of arguments is another.
 pub(crate) const AARCH64_CALLS: &[(&str, [Reading; 6])] = &[("clone", [I, W, P, W, P, N])];
 
+/// Calls that are read otherwise on ppc64le: of the number of `ipc` the lower 16 bits, and the arguments of `clone` in another order.
+pub(crate) const PPC64LE_CALLS: &[(&str, [Reading; 6])] = &[
+    ("clone", [I, W, P, W, P, N]),
+    ("ipc", [M, I, W, W, P, W]),
+];
+
 /// Calls that are read otherwise on s390x: the order of arguments is another, and `ipc` takes five.
 pub(crate) const S390X_CALLS: &[(&str, [Reading; 6])] = &[
     ("clone", [W, I, P, P, W, N]),

@@ -1,9 +1,11 @@
 //! Pairs of calls of which one does what the other does.
 use crate::lint::places::entry_at;
-use call_record::lets_through;
+use call_record::Word;
 use call_tables::Arch;
+use differ::{Direction, Unlisted, differ_on};
 use profile::Profile;
 use profile_json::EntryRules;
+use std::alloc::{AllocError, Global};
 use widths::Text;
 
 // The second does what the first does, under arguments of its own.
@@ -14,84 +16,123 @@ const PAIRS: [(&str, &str); 4] = [
     ("open", "openat2"),
 ];
 
-/// How much of a call a profile refuses.
-#[derive(Clone, Copy, PartialEq, Eq)]
-enum Refused {
-    Nothing,
-    Some,
-    All,
+// Profiles of one machine that let each of its calls through, and none.
+#[derive(Drop)]
+struct Beside {
+    open: Profile,
+    shut: Profile,
 }
 
-// How much is refused, by what is let through and what is not.
-fn refused_of(through: bool, refused: bool) -> Refused {
-    match (through, refused) {
-        (_, false) => Refused::Nothing,
-        (true, true) => Refused::Some,
-        (false, true) => Refused::All,
+// The profile of one machine that says one verdict of all its calls.
+fn says_only(alloc: Global, arch: Arch, word: Word) -> Result<Profile, AllocError> {
+    match Profile::build(alloc, arch, &[arch], word, Vec::new(alloc)) {
+        Ok(profile) => Ok(profile),
+        Err(_) => Err(AllocError),
     }
 }
 
-// How much of a machine's call is refused.
-fn part_refused(profile: &Profile, arch: Arch, nr: u32) -> Refused {
-    let mut through = false;
-    let mut refused = false;
-    for rule in profile.rules() {
-        if rule.arch == arch && rule.nr == nr {
-            let passes = lets_through(rule.word);
-            if rule.conds.is_empty() {
-                return refused_of(passes, !passes);
-            }
-            through |= passes;
-            refused |= !passes;
-        }
+impl Beside {
+    fn of(alloc: Global, arch: Arch) -> Result<Beside, AllocError> {
+        Ok(Beside {
+            open: says_only(alloc, arch, Word::ALLOW)?,
+            shut: says_only(alloc, arch, Word::KILL_PROCESS)?,
+        })
     }
-    let passes = lets_through(profile.default_word());
-    refused_of(through || passes, refused || !passes)
 }
 
-// How much of the first call is refused, if the second one is let through.
-fn passed(profile: &Profile, arch: Arch, first: &str, second: &str) -> Option<Refused> {
-    let nr = arch.number(first)?;
-    let other = arch.number(second)?;
-    let of_first = part_refused(profile, arch, nr);
-    if of_first == Refused::Nothing || part_refused(profile, arch, other) != Refused::Nothing {
-        return None;
+// Whether a profile differs from another on a record of a call, in this direction. Where its rules can answer in more ways than are looked
+// at, that is not known.
+fn differs(
+    alloc: Global,
+    profile: &Profile,
+    other: &Profile,
+    call: (Arch, u32),
+    direction: Direction,
+) -> Result<Option<bool>, AllocError> {
+    let (arch, nr) = call;
+    match differ_on(alloc, profile, other, arch.token(), nr, direction) {
+        Ok(found) => Ok(Some(found.is_some())),
+        Err(Unlisted::TooMany) => Ok(None),
+        Err(Unlisted::OutOfMemory) => Err(AllocError),
     }
-    Some(of_first)
+}
+
+// Whether a record of a call is refused.
+fn is_refused(
+    alloc: Global,
+    profile: &Profile,
+    beside: &Beside,
+    call: (Arch, u32),
+) -> Result<Option<bool>, AllocError> {
+    differs(alloc, profile, &beside.open, call, Direction::More)
+}
+
+// Whether a record of a call is let through.
+fn is_through(
+    alloc: Global,
+    profile: &Profile,
+    beside: &Beside,
+    call: (Arch, u32),
+) -> Result<Option<bool>, AllocError> {
+    differs(alloc, profile, &beside.shut, call, Direction::Less)
+}
+
+// Whether a part of the first call is let through, if some of it is refused and nothing of the second one.
+fn passed(
+    alloc: Global,
+    profile: &Profile,
+    arch: Arch,
+    first: u32,
+    second: u32,
+) -> Result<Option<bool>, AllocError> {
+    let beside = Beside::of(alloc, arch)?;
+    let of_first = is_refused(alloc, profile, &beside, (arch, first))?;
+    let of_second = is_refused(alloc, profile, &beside, (arch, second))?;
+    if of_first == Some(true) && of_second == Some(false) {
+        return is_through(alloc, profile, &beside, (arch, first));
+    }
+    Ok(None)
 }
 
 // Adds the remark on a pair on one machine.
 fn put_pair(
+    alloc: Global,
     text: &mut Text,
     profile: &Profile,
     all: &EntryRules,
     arch: Arch,
-    first: &str,
-    second: &str,
-) {
-    let Some(of_first) = passed(profile, arch, first, second) else {
-        return;
+    pair: (&str, &str),
+) -> Result<(), AllocError> {
+    let (first, second) = pair;
+    let (Some(nr), Some(other)) = (arch.number(first), arch.number(second)) else {
+        return Ok(());
+    };
+    let Some(in_part) = passed(alloc, profile, arch, nr, other)? else {
+        return Ok(());
     };
     text.put("remark: ");
-    if let Some(entry) = entry_at(all, arch, arch.number(second)) {
+    if let Some(entry) = entry_at(all, arch, Some(other)) {
         text.put(format_args!("linux.seccomp.syscalls[{entry}]: "));
     }
     let machine = arch.machine_name();
-    let part = if of_first == Refused::All {
-        ""
-    } else {
-        " in part"
-    };
+    let part = if in_part { " in part" } else { "" };
     text.put(format_args!(
         "{second} of {machine} is let through and does what {first} does, which is refused{part}\n"
     ));
+    Ok(())
 }
 
 /// Adds the remarks on calls that are let through where others are refused that do the same.
-pub(crate) fn put_pairs(text: &mut Text, profile: &Profile, all: &EntryRules) {
+pub(crate) fn put_pairs(
+    alloc: Global,
+    text: &mut Text,
+    profile: &Profile,
+    all: &EntryRules,
+) -> Result<(), AllocError> {
     for arch in profile.machines() {
         for pair in &PAIRS {
-            put_pair(text, profile, all, *arch, pair.0, pair.1);
+            put_pair(alloc, text, profile, all, *arch, *pair)?;
         }
     }
+    Ok(())
 }

@@ -154,8 +154,11 @@ fn put_notified(text: &mut Text, all: &EntryRules, at: usize, rule: &Rule) {
     }
 }
 
-// Adds how many rules refuse calls that others would carry out alike.
+// Adds how many rules refuse calls that others would carry out alike, if the default refuses them.
 fn put_strict(text: &mut Text, profile: &Profile) {
+    if lets_through(profile.default_word()) {
+        return;
+    }
     let count = profile
         .rules()
         .iter()
@@ -170,9 +173,14 @@ fn put_strict(text: &mut Text, profile: &Profile) {
 }
 
 // Adds the remarks.
-fn put_remarks(text: &mut Text, profile: &Profile, all: &EntryRules) {
+fn put_remarks(
+    alloc: Global,
+    text: &mut Text,
+    profile: &Profile,
+    all: &EntryRules,
+) -> Result<(), AllocError> {
     put_strict(text, profile);
-    put_pairs(text, profile, all);
+    put_pairs(alloc, text, profile, all)?;
     put_notified_default(text, profile);
     for (at, rule) in all.rules.iter().enumerate() {
         put_default(text, profile, all, at, rule);
@@ -181,6 +189,7 @@ fn put_remarks(text: &mut Text, profile: &Profile, all: &EntryRules) {
             put_rule(text, all, at, rule);
         }
     }
+    Ok(())
 }
 
 /// The remarks on a bundle.
@@ -190,6 +199,6 @@ pub(crate) fn remarks_of(
     all: &EntryRules,
 ) -> Result<String, AllocError> {
     let mut text = Text::new(alloc);
-    put_remarks(&mut text, profile, all);
+    put_remarks(alloc, &mut text, profile, all)?;
     text.whole()
 }

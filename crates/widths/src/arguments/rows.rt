@@ -5,8 +5,8 @@ ghost use Rattle.widths.specs.Tables as tables;
 
 use crate::arguments::reading::Reading;
 use crate::linux_arguments::{
-    AARCH64_CALLS, FIRST_CALLS, FOURTH_CALLS, S390X_CALLS, SECOND_CALLS, THIRD_CALLS, X32_CALLS,
-    X86_CALLS,
+    AARCH64_CALLS, FIRST_CALLS, FOURTH_CALLS, PPC64LE_CALLS, S390X_CALLS, SECOND_CALLS,
+    THIRD_CALLS, X32_CALLS, X86_CALLS,
 };
 use call_tables::Arch;
 
@@ -57,6 +57,13 @@ fn of_aarch64() -> &'static [(&'static str, [Reading; 6])]
     ensures { rows result.now ≡ tables.aarch64_rows }
 {
     AARCH64_CALLS
+}
+
+#[tactic(auto, unfolding(crate::specs::Tables::ppc64le_rows))]
+fn of_ppc64le() -> &'static [(&'static str, [Reading; 6])]
+    ensures { rows result.now ≡ tables.ppc64le_rows }
+{
+    PPC64LE_CALLS
 }
 
 #[tactic(auto, unfolding(crate::specs::Tables::s390x_rows))]
@@ -129,6 +136,16 @@ fn on_aarch64(name: &str) -> Option<[Reading; 6]>
     shared(name)
 }
 
+fn on_ppc64le(name: &str) -> Option<[Reading; 6]>
+    ensures { result ≡ readings_among tables.on_ppc64le name.now }
+{
+    let found = find(of_ppc64le(), name);
+    if found.is_some() {
+        return found;
+    }
+    shared(name)
+}
+
 fn on_s390x(name: &str) -> Option<[Reading; 6]>
     ensures { result ≡ readings_among tables.on_s390x name.now }
 {
@@ -151,7 +168,7 @@ pub(crate) fn of_name(arch: Arch, name: &str) -> Option<[Reading; 6]>
         Arch::Aarch64 => on_aarch64(name),
         Arch::LinuxAarch64 => on_aarch64(name),
         Arch::LinuxRiscv64 => on_aarch64(name),
-        Arch::LinuxPpc64le => on_aarch64(name),
+        Arch::LinuxPpc64le => on_ppc64le(name),
         Arch::LinuxX86 => find(of_x86(), name),
         Arch::LinuxS390x => on_s390x(name),
         Arch::LinuxArm | Arch::LinuxS390 => None,
