@@ -1,18 +1,17 @@
 -- What a profile lets through whose rules are for calls that are named.
-use Rattle.std.proofs.Common.{◌≡◌, ℕ, suc, Bool, true, false, ◌⊎◌, inl, inr, List, [], ◌∷◌, refl, sym, ap, subst, ◌∙◌, arith}
-use Rattle.std.specs.Prelude.{Option, Some}
+use Rattle.std.proofs.Common.{◌≡◌, ℕ, suc, true, false, ◌⊎◌, inl, inr, List, [], ◌∷◌, refl, ap, subst, ◌∙◌, arith}
+use Rattle.std.specs.Prelude.{Option}
 use Rattle.std.specs.List.{All, Contains}
 use Rattle.std.proofs.lemmas.Bool.{cases_Bool}
 use Rattle.std.proofs.lemmas.Bool.Decides.{not_from_Decides}
 use Rattle.std.proofs.lemmas.List.Elements.{All-nil, All-cons, All-contains}
 use Rattle.call_record.specs.Verdict.{Through}
-use Rattle.call_record.specs.Words.{word}
 use Rattle.call_tables.specs.declared.arch.Arch.{Arch}
 use Rattle.call_tables.specs.Arch.{table_of}
 use Rattle.call_tables.specs.Table.{name_in}
 use Rattle.profile.specs.declared.rules.Rule.{Rule}
 use Rattle.profile.specs.Rule.{Matches}
-use Rattle.profile.specs.Policy.{Policy, IsNative, Says}
+use Rattle.profile.specs.Policy.{Policy, IsNative}
 use Rattle.profile.specs.Said as said
 use Rattle.profile.proofs.SaidLaws.{Decides-is_native, Decides-matches}
 use Rattle.strace_logs.specs.declared.lists.Runtime.{Runtime}

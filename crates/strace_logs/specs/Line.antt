@@ -1,7 +1,7 @@
 -- Which call a line of a log tells that `strace -n -e raw=all` wrote (strace(1)). It is its number, its name and its
 -- arguments. Such a line is `22463 [ 257] openat(0xffffff9c, 0x7f3c133b60b1, 0x80000, 0) = 0x3`, for example. Where another
 -- process made a line before the call was over, ` <unfinished ...>` stands in the place of `)`.
-use Rattle.std.specs.Prelude.{ℕ, ◌==◌, ◌^◌, nat_lt, Bool, false, if◌then◌else◌, List, [], ◌∷◌, Option, Some, None, codes, find}
+use Rattle.std.specs.Prelude.{ℕ, ◌==◌, ◌&&◌, ◌||◌, ◌^◌, length, is_some, nat_lt, Bool, true, false, if◌then◌else◌, List, [], ◌∷◌, Option, Some, None, codes, find}
 use Rattle.std.specs.Prelude.{option_and_then}
 use Rattle.std.specs.Str.{is_utf8}
 use Rattle.texts.specs.Lines.{space}
@@ -109,6 +109,33 @@ before_end None None = None
 
 abbrev pub given_at : List ℕ → Option (List ℕ)
 given_at text = before_end (split_at 41 text) (split_at 60 text)
+
+-- ---- whether arguments are numbers
+
+-- the field that a text begins with is a number, or there is none
+unfoldable pub is_raw_at : List ℕ → Bool
+is_raw_at text = length (cut 32 text).0 == 0 || is_some (value_at (cut 44 (cut 32 text).0).0)
+
+-- so are six fields
+unfoldable pub are_raw_at : List ℕ → Bool
+are_raw_at text =
+    let b = rest_at text in
+    let c = rest_at b in
+    let d = rest_at c in
+    let e = rest_at d in
+    is_raw_at text && (is_raw_at b && (is_raw_at c && (is_raw_at d && (is_raw_at e && is_raw_at (rest_at e)))))
+
+abbrev pub are_raw_in : Option (List ℕ) → Bool
+are_raw_in None = true
+are_raw_in (Some given) = are_raw_at given
+
+abbrev pub is_raw_behind : Option (List ℕ × List ℕ) → Bool
+is_raw_behind None = true
+is_raw_behind (Some parts) = are_raw_in (given_at parts.1)
+
+-- each argument that a line writes is a number, as `-e raw=all` has it
+unfoldable pub is_raw : List ℕ → Bool
+is_raw line = is_raw_behind (split_at 40 line)
 
 -- ---- calls
 

@@ -1,8 +1,8 @@
 -- The calls that logs show.
-use Rattle.std.specs.Prelude.{ℕ, ◌+◌, Bool, nat_lt, if◌then◌else◌, List, [], ◌∷◌, ◌++◌, Option, Some, None, length, map}
-use Rattle.std.specs.List.{flat_map}
+use Rattle.std.specs.Prelude.{ℕ, ◌+◌, ◌&&◌, Bool, nat_lt, if◌then◌else◌, List, [], ◌∷◌, ◌++◌, Option, Some, None, length, map}
+use Rattle.std.specs.List.{flat_map, list_all}
 use Rattle.call_tables.specs.declared.arch.Arch.{Arch}
-use Rattle.strace_logs.specs.Line.{CallParts, call_in, words_of_call}
+use Rattle.strace_logs.specs.Line.{CallParts, call_in, is_raw, words_of_call}
 use Rattle.wording.specs.Lines.{lines_of}
 use Rattle.strace_logs.specs.declared.logs.Log.{Log}
 
@@ -27,9 +27,12 @@ calls_from native log n (line ∷ lines) = told_on (call_in native line) log n l
 abbrev pub calls_of : Arch → List ℕ × List ℕ → List Logged
 calls_of native log = calls_from native log.0 1 (lines_of log.1)
 
--- it is one if a line tells a call
+abbrev pub are_raw : List Logged → Bool
+are_raw calls = list_all (λ call. is_raw call.line) calls
+
+-- it is one if a line tells a call, and all arguments that its calls write are numbers
 abbrev pub is_log : Arch → List ℕ × List ℕ → Bool
-is_log native log = nat_lt 0 (length (calls_of native log))
+is_log native log = nat_lt 0 (length (calls_of native log)) && are_raw (calls_of native log)
 
 -- the name of the first that is none
 abbrev pub first_none : Arch → List (List ℕ × List ℕ) → Option (List ℕ)

@@ -1,6 +1,6 @@
 -- What is told of logs that are played through a bundle.
 use Rattle.std.specs.Prelude.{ℕ, ◌≡◌, ◌↔◌, ◌⊎◌, ◌==◌, ◌&&◌, Bool, true, false, if◌then◌else◌, List, [], ◌∷◌, ◌++◌, Some, None, IfSome}
-use Rattle.std.specs.Prelude.{codes, count_by, length, map, position, unwrap_or}
+use Rattle.std.specs.Prelude.{codes, count_by, length, map, unwrap_or}
 use Rattle.std.specs.Fmt.{decimal}
 use Rattle.std.specs.List.{All, flat_map, list_any}
 use Rattle.texts.specs.Lines.{line_feed}
@@ -120,7 +120,7 @@ TextIsThrough native p text = All (LineIsThrough native p) (lines_of text)
 pub record RefusesLog (native : Arch) (logs : List (List ℕ × List ℕ)) (told : Told) : Type 0 where
   pub name : List ℕ
   pub first : first_none native logs ≡ Some name
-  pub tells : TellsLine (codes "refused log " ++ name ++ codes ": no line tells a call: it is no log of strace -f -n -e raw=all") told
+  pub tells : TellsLine (codes "refused log " ++ name ++ codes ": it is no log of strace -f -n -e raw=all: no line tells a call, or one has an argument that is no number") told
 
 -- The logs were played through the profile that the bundle means. It is done just where each record is carried out.
 pub record Replays (native : Arch) (bundle : List ℕ) (logs : List (List ℕ × List ℕ)) (unused : Bool) (told : Told) : Type 0 where

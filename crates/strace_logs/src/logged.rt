@@ -1,12 +1,13 @@
 //! The calls that logs show, one after the other.
 ghost use Rattle.std.specs.Prelude.{◌≡◌, ◌<◌, ◌+◌, ◌++◌, ◌∷◌, [], IfOk, IfSome, MatchOption, None, Some, length, true};
 ghost use Rattle.std.specs.Option.{option_map};
-ghost use Rattle.strace_logs.specs.Line.{call_in, call_on as call_told};
+ghost use Rattle.std.specs.List.{list_all};
+ghost use Rattle.strace_logs.specs.Line.{call_in, call_on as call_told, is_raw as the_test};
 ghost use Rattle.strace_logs.specs.Logged as spec;
 ghost use Rattle.strace_logs.specs.inner.Views.{all_logged, logged};
 
 use crate::logs::Log;
-use crate::strace::{Call, call_on};
+use crate::strace::{Call, call_on, is_raw};
 use call_record::Record;
 use call_tables::Arch;
 use std::alloc::AllocError;
@@ -91,6 +92,13 @@ fn put_text<'a>(
     put_line(native, log, number, rest, calls)
 }
 
+// Whether all arguments that lines of calls write are numbers.
+fn are_raw(calls: &[LogCall<'_>]) -> bool
+    ensures { result ≡ list_all (λ call. the_test call.line.now) calls.now }
+{
+    calls.iter().all(|call| is_raw(call.line))
+}
+
 // Adds the calls of a log, and tells whether it is one.
 fn put_log<'a>(
     native: Arch,
@@ -103,7 +111,7 @@ fn put_log<'a>(
 {
     let before = calls.len();
     put_text(native, log.name, log.text, calls)?;
-    Ok(before < calls.len())
+    Ok(before < calls.len() && are_raw(&calls[before..]))
 }
 
 /// Adds the calls that logs show, up to the first that is no log, and gives its name.

@@ -87,10 +87,10 @@ fn told_of(
 // The line that tells that a file is no log.
 fn no_log(alloc: Global, name: &str) -> Result<Told, AllocError>
     ensures { IfOk result (TellsLine (codes "refused log " ++ name.now
-        ++ codes ": no line tells a call: it is no log of strace -f -n -e raw=all")) }
+        ++ codes ": it is no log of strace -f -n -e raw=all: no line tells a call, or one has an argument that is no number")) }
 {
     let line = format!(in alloc;
-        "refused log {name}: no line tells a call: it is no log of strace -f -n -e raw=all\n"
+        "refused log {name}: it is no log of strace -f -n -e raw=all: no line tells a call, or one has an argument that is no number\n"
     )?;
     Ok(Told {
         bytes: line.into_bytes(),

@@ -2,6 +2,7 @@
 ghost use Rattle.std.specs.Prelude.{◌≡◌, ◌<◌};
 ghost use Rattle.std.specs.Option.{option_map};
 ghost use Rattle.strace_logs.specs.Line.{argument_at, arguments_at, cut, given_at, or_zero, rest_at};
+ghost use Rattle.strace_logs.specs.Line.{are_raw_at, is_raw, is_raw_at};
 
 use crate::strace::numbers::value;
 use texts::split;
@@ -74,6 +75,48 @@ pub(crate) fn written(text: &str, place: u8) -> Option<u64> {
         left = rest(left);
     }
     first(left)
+}
+
+// Whether the field that a text begins with is a number, if there is one.
+#[tactic(auto, unfolding(crate::specs::Line::is_raw_at))]
+fn is_raw_first(text: &str) -> bool
+    ensures { result ≡ is_raw_at text.now }
+{
+    let (field, _) = cut(text, ' ');
+    let (digits, _) = cut(field, ',');
+    field.is_empty() || value(digits).is_some()
+}
+
+// Whether six fields are.
+#[tactic(auto, unfolding(crate::specs::Line::are_raw_at))]
+fn are_raw(text: &str) -> bool
+    ensures { result ≡ are_raw_at text.now }
+{
+    let b = rest(text);
+    let c = rest(b);
+    let d = rest(c);
+    let e = rest(d);
+    let f = rest(e);
+    is_raw_first(text)
+        && is_raw_first(b)
+        && is_raw_first(c)
+        && is_raw_first(d)
+        && is_raw_first(e)
+        && is_raw_first(f)
+}
+
+/// Whether each argument that a line writes is a number, as `-e raw=all` has it.
+#[tactic(auto, unfolding(crate::specs::Line::is_raw))]
+pub(crate) fn is_raw(line: &str) -> bool
+    ensures { result ≡ is_raw line.now }
+{
+    let Some((_, behind)) = split(line, '(') else {
+        return true;
+    };
+    match given(behind) {
+        Some(inside) => are_raw(inside),
+        None => true,
+    }
 }
 
 /// What stands before `)`, or else before the mark of a call that is not over.
