@@ -14,7 +14,7 @@ use Rattle.aside.specs.Judged.{AreLeftOut, IsLeftOut}
 use Rattle.aside.specs.Told.{AreFoundBut, CertifiesBut, CertifiesBy}
 use Rattle.cli.specs.declared.stops.Stop.{Stop}
 use Rattle.cli.specs.Dispatch.{AnswersBut, StopsAt}
-use Rattle.cli.specs.Files.{Folder, HasBundle, HasBytes, HasEnoughFilter, HasFilter, IsEnough}
+use Rattle.cli.specs.Files.{Folder, HasBundle, HasEnoughFilter, HasFilter, IsEnough}
 use Rattle.cli.specs.Running.{told_line}
 use Rattle.cli.proofs.DispatchLaws.{second}
 use Rattle.cli.proofs.EnoughLaws.{whole_filter}

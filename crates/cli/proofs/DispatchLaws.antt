@@ -16,7 +16,6 @@ use Rattle.maker.specs.Answer.{WritesAnswer}
 use Rattle.compare.specs.Behind.{CertifiesAllBehind, CertifiesBehind}
 use Rattle.compare.specs.Convictions.{TellsAll}
 use Rattle.maker.specs.Certified.{Certifies}
-use Rattle.maker.specs.Exported.{Exports}
 use Rattle.maker.specs.Finding.{WritesFinding}
 use Rattle.cli.specs.declared.stops.Stop.{Stop}
 use Rattle.cli.specs.declared.stops.Stop.TheVariants.{OutOfMemory, Usage}

@@ -1,5 +1,5 @@
 -- What is read of a file that is long enough is as long in the machine's order of bytes.
-use Rattle.std.proofs.Common.{◌≡◌, ℕ, ◌≤◌, ◌++◌, ◌%◌, List, [], ◌∷◌, ap, length, refl, subst, sym, ◌∙◌, arith}
+use Rattle.std.proofs.Common.{◌≡◌, ℕ, List, [], ◌∷◌, ap, length, refl, subst, sym, ◌∙◌, arith}
 use Rattle.std.specs.Prelude.{Option}
 use Rattle.call_tables.specs.declared.arch.Arch.{Arch}
 use Rattle.byte_order.specs.Turned.{read_as}

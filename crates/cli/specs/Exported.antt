@@ -1,5 +1,5 @@
 -- What `export` tells of a bundle, as a machine has it.
-use Rattle.std.specs.Prelude.{ℕ, ◌≡◌, Bool, true, false, List, [], Ok}
+use Rattle.std.specs.Prelude.{ℕ, ◌≡◌, Bool, true, List, [], Ok}
 use Rattle.call_tables.specs.declared.arch.Arch.{Arch}
 use Rattle.byte_order.specs.Turned.{written_as}
 use Rattle.export.specs.declared.form.Form.{Form}

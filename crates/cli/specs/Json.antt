@@ -1,6 +1,8 @@
 -- An answer as JSON lines: what a command writes is kept in memory, and told as objects.
-use Rattle.std.specs.Prelude.{ℕ, ◌≡◌, ◌⊎◌, Bool, true, false, List, Option, Some, Result, Ok, Err}
+use Rattle.std.specs.Prelude.{ℕ, ◌≡◌, ◌⊎◌, ◌&&◌, Bool, true, false, nat_eq, List, Option, Some, Result, Ok, Err}
 use Rattle.std.specs.Global.{Vec}
+use Rattle.std.specs.List.{starts_with}
+use Rattle.cert_form.specs.Spelling.{magic}
 use Rattle.texts.specs.Failures.{Failures}
 use Rattle.texts.specs.Sink.{Writes}
 use Rattle.texts.specs.declared.streams.fault.WriteFault.{WriteFault}
@@ -27,10 +29,10 @@ abbrev pub is_json : Command → Bool
 is_json Json = true
 is_json other = false
 
--- the answer is the bytes of a certificate
-abbrev pub is_certificate : Command → Bool → Bool
-is_certificate Certify done = done
-is_certificate other done = false
+-- the answer is the bytes of a certificate, and no line that says for which calls there is none
+abbrev pub is_certificate : Command → Bool → List ℕ → Bool
+is_certificate Certify done answer = done && starts_with nat_eq answer magic
+is_certificate other done answer = false
 
 -- the objects of an answer of the command of that name, which ended with this status
 abbrev pub objects_by : Bool → List ℕ → List ℕ → ℕ → List ℕ
@@ -62,7 +64,7 @@ kept_stop Refused = Refused
 abbrev pub WritesObjects : {O : Type 0} → (O → Option (List ℕ)) → (O → Failures) → O → O → Command → List ℕ → List ℕ → Result Bool Stop
     → Result Bool Stop → Type 0
 WritesObjects held failures old new command name answer (Ok true) result =
-    TellsObjects held failures old new (objects_by (is_certificate command true) name answer 0) (Ok true) result
+    TellsObjects held failures old new (objects_by (is_certificate command true answer) name answer 0) (Ok true) result
 WritesObjects held failures old new command name answer (Ok false) result =
     TellsObjects held failures old new (objects_by false name answer 1) (Ok false) result
 WritesObjects held failures old new command name answer (Err Refused) result =

@@ -19,11 +19,11 @@ pub(crate) fn is_json(command: Command) -> bool
 }
 
 // Whether the answer is a certificate.
-fn is_certificate(command: Command, done: bool) -> bool
-    ensures { result ≡ spec.is_certificate command done }
+fn is_certificate(command: Command, done: bool, answer: &[u8]) -> bool
+    ensures { result ≡ spec.is_certificate command done answer.now }
 {
     match command {
-        Command::Certify => done,
+        Command::Certify => done && answer.starts_with(b"CCRT"),
         _ => false,
     }
 }
@@ -111,7 +111,7 @@ pub(crate) fn write_answer<'a, O: Sink, E: Sink>(
 {
     match outcome {
         Ok(done) => {
-            let certificate = is_certificate(command, done);
+            let certificate = is_certificate(command, done, answer);
             let status = if done { 0 } else { 1 };
             write_made(
                 objects_of(alloc, certificate, name, answer, status),

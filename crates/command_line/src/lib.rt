@@ -7,6 +7,7 @@ mod misused;
 mod pages;
 mod prose;
 mod reading;
+mod said;
 mod table;
 
 pub use meanings::Meaning;

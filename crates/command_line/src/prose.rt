@@ -246,7 +246,7 @@ answer counts, and of equally strict ones the newest filter's. Every command tha
 reads the stack. Filters with scratch words, or that return what they computed, are not put together.
 Status 0, 1 if there is none, or 4 if one is no filter.
 
-Example: ccell flatten linux-x86-64 1234.1.bpf 1234.0.bpf > process.bpf
+Example: ccell flatten linux-x86-64 1234.0.bpf 1234.1.bpf > process.bpf
 ";
 
 const REVIEW: &str =

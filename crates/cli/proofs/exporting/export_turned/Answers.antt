@@ -1,4 +1,4 @@
-use Rattle.std.proofs.Common.{ℕ, List, ap, inl, inr, subst, sym, ◌∙◌}
+use Rattle.std.proofs.Common.{ℕ, List, ap, inr, subst, sym, ◌∙◌}
 use Rattle.std.specs.Prelude.{Ok, Err}
 use Rattle.texts.specs.Sink.{Writes}
 use Rattle.cli.specs.Json.{ends_by}

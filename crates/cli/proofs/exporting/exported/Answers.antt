@@ -1,4 +1,4 @@
-use Rattle.std.proofs.Common.{ℕ, List, ap, ◌∙◌}
+use Rattle.std.proofs.Common.{ℕ, ap, ◌∙◌}
 use Rattle.std.specs.Global.{Vec}
 use Rattle.cli.specs.Exported.{file_in}
 use Rattle.cli.proofs.exporting.exported.Goals as goal

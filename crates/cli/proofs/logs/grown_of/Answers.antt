@@ -1,5 +1,4 @@
 use Rattle.std.proofs.Common.{List, ap, map, subst, ◌∙◌, ℕ}
-use Rattle.cli.specs.Grouped.{groups_in, others_in}
 use Rattle.cli.specs.Widened.{from_in}
 use Rattle.cli.specs.inner.Telling.{IsLearnedBy, IsWithGroups, told_in}
 use Rattle.cli.proofs.LogLaws.{learned_memory}

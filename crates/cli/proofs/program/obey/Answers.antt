@@ -1,5 +1,4 @@
 use Rattle.std.proofs.Common.{[], ◌∷◌, codes, inl, inr, refl, ⊎_elim}
-use Rattle.std.specs.Str.{bytes_eq}
 use Rattle.byte_order.specs.Turned.{read_as}
 use Rattle.explain.specs.Told.{IsAssembled, IsRecorded, IsVersion}
 use Rattle.show.specs.Shown.{IsAnnotated, IsDrawn}
