@@ -123,6 +123,8 @@ void free_parts(struct parts *parts);
 uint32_t machines_that_drop(const struct filter *filter, const struct rule *rule);
 /* Whether the last rule, and those of which it leaves less, can be given to ccell: 0, or an error. */
 int judge_last(const struct filter *filter);
+/* Whether a rule that is there already can be added once more: libseccomp's order may be another one then. 0, or an error. */
+int judge_again(const struct filter *filter, const struct rule *rule);
 
 /* Whether a rule can stand beside those that were added before it: 0, or an error. */
 int judge_rule(const struct filter *filter, const struct rule *rule);

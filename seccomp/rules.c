@@ -126,7 +126,8 @@ static int judge(const struct filter *filter, struct rule *rule) {
 
 static int append(struct filter *filter, struct rule *rule) {
     int is_new = judge(filter, rule);
-    if (is_new <= 0) return is_new;
+    if (!is_new) return judge_again(filter, rule);
+    if (is_new < 0) return is_new;
     if (filter->now.count == filter->room && grow(filter)) return -ENOMEM;
     rule->dropped = machines_that_drop(filter, rule);
     filter->rules[filter->now.count] = *rule;
