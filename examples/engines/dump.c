@@ -56,6 +56,8 @@ static void stop(pid_t pid) {
     if (seen != pid || !WIFSTOPPED(status)) errx(1, "process %d ended", pid);
 }
 
+static const char *ending(long count) { return count == 1 ? "" : "s"; }
+
 int main(int argc, char **argv) {
     pid_t pid = argc == 2 || argc == 3 ? (pid_t)atol(argv[1]) : 0;
     int is_all = argc == 3 && !strcmp(argv[2], "all");
@@ -66,7 +68,7 @@ int main(int argc, char **argv) {
     stop(pid);
     while (get(pid, count, NULL) >= 0) count++;
     if (errno != ENOENT && errno != EINVAL) err(1, "the kernel shows no filter");
-    if (place >= count) errx(1, "process %d has %ld filters, and none at place %ld", pid, count, place);
+    if (place >= count) errx(1, "process %d has %ld filter%s, and none at place %ld", pid, count, ending(count), place);
     long end = is_all ? count : place + 1;
     struct loaded *filters = calloc(count, sizeof *filters);
     if (!filters) err(1, "memory");
@@ -74,7 +76,8 @@ int main(int argc, char **argv) {
     ptrace(PTRACE_DETACH, pid, NULL, NULL);
 
     for (long at = place; at < end; at++) {
-        fprintf(stderr, "process %d has %ld filters; filter %ld has %ld instructions\n", pid, count, at, filters[at].length);
+        fprintf(stderr, "process %d has %ld filter%s; filter %ld has %ld instruction%s\n", pid, count, ending(count), at,
+                filters[at].length, ending(filters[at].length));
         if (is_all) write_file(&filters[at], pid, at);
         else write_filter(&filters[at], stdout);
     }

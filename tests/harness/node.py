@@ -10,10 +10,12 @@ ENGINES = f"{TOP}/examples/engines"
 # Copies the filters that the test has put beside the config of a process.
 DUMP = """#!/bin/sh
 count=$(ls "$FILTERS/$1" | wc -l)
+filters=filters
+[ "$count" -ne 1 ] || filters=filter
 [ "$count" -gt 0 ] || { echo "dump: process $1 has 0 filters, and none at place 0" >&2; exit 1; }
 for place in $(seq 0 $((count - 1))); do
     cp "$FILTERS/$1/$place" "$1.$place.bpf"
-    echo "process $1 has $count filters; filter $place has $(($(wc -c <"$1.$place.bpf") / 8)) instructions" >&2
+    echo "process $1 has $count $filters; filter $place has $(($(wc -c <"$1.$place.bpf") / 8)) instructions" >&2
 done
 """
 # The kernel's answer to a call of x32: perl is asked.
@@ -32,7 +34,7 @@ CONTAINERS = {
 }
 # personality of x32 is call 135: libseccomp compares its lower half with 0xffffffff, which docker allows, and the profile all of it.
 OF_X32 = ("differs on call personality, number 1073741959 of linux-x32, arguments 0xffffffffffffffff 0x0 0x0 0x0 0x0 0x0: "
-          "filter ALLOW, profile ERRNO 1 (process 1 has 1 filters; filter 0 has 974 instructions)")
+          "filter ALLOW, profile ERRNO 1 (process 1 has 1 filter; filter 0 has 974 instructions)")
 # Of the container with an older filter, how many calls that one keeps from it.
 OLDER_CALLS = {"4": 1}
 

@@ -183,8 +183,10 @@ def faults_of_calls(page, text):
     counts = re.search(r"chosen lists: (\d+) and (\d+) calls", text)
     if counts and counts.groups() != (str(len(chosen)), str(len(chosen) - chosen.count("-"))):
         faults.append(f"its chosen lists have {len(chosen)} calls")
-    counts = re.search(", ".join(rf"(\d+) on {machine}" for machine in WHOLE[:-1]) + rf" and (\d+) on {WHOLE[-1]}", text)
-    return faults + (faults_of_whole_tables(counts.groups()) if counts else [])
+    for head, *rows in tables(text):
+        if tuple(head) == WHOLE:
+            faults += faults_of_whole_tables(tuple(rows[0]))
+    return faults
 
 
 def faults_of_whole_tables(counts):
