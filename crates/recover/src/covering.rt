@@ -119,16 +119,18 @@ fn widened(argument: &Argument, aim: &Aim, number: u64, is_low_first: bool) -> O
     masked_fit(argument, aim, mask, number)
 }
 
-// The condition that the highest bits of a number are as they are, as few as can be. It holds of numbers in a row, so two such conditions
-// mostly hold of no number both: whoever asks them has few cases to look at.
-fn in_a_row(argument: &Argument, aim: &Aim, number: u64) -> Option<Cond> {
+// The condition that the highest bits of a number are as they are, as few as can be, and of the lowest ones those that have to be. Numbers
+// with unlike highest bits meet no two such conditions, so that whoever asks them has few cases to look at.
+fn by_highest(argument: &Argument, aim: &Aim, number: u64) -> Option<Cond> {
     let mut mask = drop_bits(argument, aim, argument.mask, u64::MAX << 32, number);
+    let mut has_begun = false;
     for place in 0..64u32 {
         let bit = 1u64.wrapping_shl(place);
         let fewer = drop_bits(argument, aim, mask, bit, number);
-        if mask & bit != 0 && fewer == mask {
+        if has_begun && mask & bit != 0 && fewer == mask {
             break;
         }
+        has_begun |= fewer != mask;
         mask = fewer;
     }
     masked_fit(argument, aim, mask, number)
@@ -184,7 +186,7 @@ fn best_of(
     }
     if best.cond.is_none() {
         let number = piece.least;
-        best.try_with(in_a_row(argument, aim, number), piece, left);
+        best.try_with(by_highest(argument, aim, number), piece, left);
         best.try_with(widened(argument, aim, number, true), piece, left);
         best.try_with(widened(argument, aim, number, false), piece, left);
     }
