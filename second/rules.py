@@ -52,4 +52,9 @@ def text_of(native, bundle):
 
 
 if __name__ == '__main__':
-    sys.stdout.write(text_of(sys.argv[1], json.loads(pathlib.Path(sys.argv[2]).read_bytes())))
+    if len(sys.argv) != 3 or sys.argv[1] not in ORDER:
+        sys.exit(f'usage: rules.py MACHINE BUNDLE, where MACHINE is one of: {" ".join(ORDER)}')
+    try:
+        sys.stdout.write(text_of(sys.argv[1], json.loads(pathlib.Path(sys.argv[2]).read_bytes())))
+    except (OSError, ValueError) as fault:
+        sys.exit(f'rules.py: {fault}')

@@ -642,7 +642,7 @@ static bool keeps_entail(const struct node *node) {
 }
 
 int main(int count, char **names) {
-    if (count != 5 || names[2][0] == '-' || names[3][0] == '-' || names[4][0] == '-') fault(2, "usage", "");
+    if (count != 5 || names[2][0] == '-' || names[3][0] == '-' || names[4][0] == '-') fault(2, "usage: second MACHINE PROFILE FILTER CERTIFICATE", "");
     read_profile(names[2], names[1]);
     read_filter(names[3], strcmp(names[1], "linux-s390x") == 0);
     check_kernel();

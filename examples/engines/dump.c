@@ -7,6 +7,7 @@
  * CONFIG_CHECKPOINT_RESTORE. What comes are the instructions as they were loaded, eight bytes each: a FILTER of ccell. */
 #include <err.h>
 #include <errno.h>
+#include <limits.h>
 #include <linux/filter.h>
 #include <signal.h>
 #include <stdio.h>
@@ -45,8 +46,9 @@ static void write_file(const struct loaded *filter, pid_t pid, long place) {
     fclose(to);
 }
 
-/* Stops a process. One that is frozen, or that waits in the kernel (state D), may never stop: five seconds are given. */
-static void stop(pid_t pid) {
+/* Stops a process, and returns the signal that it was about to get and gets when it goes on, or 0. One that is frozen, or that waits in the
+ * kernel (state D), may never stop: five seconds are given. */
+static int stop(pid_t pid) {
     int status = 0;
     pid_t seen = 0;
     if (ptrace(PTRACE_SEIZE, pid, NULL, NULL)) err(1, "process %d", pid);
@@ -54,18 +56,27 @@ static void stop(pid_t pid) {
     for (int i = 0; i < 500 && !(seen = waitpid(pid, &status, __WALL | WNOHANG)); i++) usleep(10000);
     if (!seen) errx(1, "process %d does not stop: it is paused, or waits in the kernel", pid);
     if (seen != pid || !WIFSTOPPED(status)) errx(1, "process %d ended", pid);
+    return status >> 16 ? 0 : WSTOPSIG(status);
+}
+
+/* The number that a word is, or -1. */
+static long number_of(const char *word) {
+    char *end;
+    long is = strtol(word, &end, 10);
+    return *word && !*end ? is : -1;
 }
 
 static const char *ending(long count) { return count == 1 ? "" : "s"; }
 
 int main(int argc, char **argv) {
-    pid_t pid = argc == 2 || argc == 3 ? (pid_t)atol(argv[1]) : 0;
+    long process = argc == 2 || argc == 3 ? number_of(argv[1]) : 0;
     int is_all = argc == 3 && !strcmp(argv[2], "all");
-    long place = argc == 3 ? atol(argv[2]) : 0, count = 0;
-    if (pid <= 0 || place < 0) errx(2, "usage: dump PID [PLACE | all]");
+    long place = argc == 3 && !is_all ? number_of(argv[2]) : 0, count = 0;
+    if (process <= 0 || process > INT_MAX || place < 0) errx(2, "usage: dump PID [PLACE | all]");
+    pid_t pid = process;
     if (!is_all && isatty(STDOUT_FILENO)) errx(2, "the filter is bytes: send it to a file");
 
-    stop(pid);
+    long due = stop(pid);
     while (get(pid, count, NULL) >= 0) count++;
     if (errno != ENOENT && errno != EINVAL) err(1, "the kernel shows no filter");
     if (place >= count) errx(1, "process %d has %ld filter%s, and none at place %ld", pid, count, ending(count), place);
@@ -73,7 +84,7 @@ int main(int argc, char **argv) {
     struct loaded *filters = calloc(count, sizeof *filters);
     if (!filters) err(1, "memory");
     for (long at = place; at < end; at++) filters[at] = read_filter(pid, at);
-    ptrace(PTRACE_DETACH, pid, NULL, NULL);
+    ptrace(PTRACE_DETACH, pid, NULL, (void *)due);
 
     for (long at = place; at < end; at++) {
         fprintf(stderr, "process %d has %ld filter%s; filter %ld has %ld instruction%s\n", pid, count, ending(count), at,

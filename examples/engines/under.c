@@ -15,8 +15,10 @@ int main(int argc, char **argv) {
     if (argc < 3) errx(2, "usage: under FILTER COMMAND [WORD..]");
     FILE *file = fopen(argv[1], "rb");
     if (!file) err(1, "%s", argv[1]);
-    struct sock_fprog whole = {(unsigned short)fread(program, sizeof *program, BPF_MAXINSNS, file), program};
+    size_t length = fread(program, 1, sizeof program, file);
+    if (ferror(file) || length % sizeof *program || getc(file) != EOF) errx(1, "%s is no filter, or not a whole one", argv[1]);
     fclose(file);
+    struct sock_fprog whole = {(unsigned short)(length / sizeof *program), program};
     if (prctl(PR_SET_NO_NEW_PRIVS, 1, 0, 0, 0)) err(1, "no_new_privs");
     if (prctl(PR_SET_SECCOMP, SECCOMP_MODE_FILTER, &whole)) err(1, "the kernel does not take %s", argv[1]);
     execvp(argv[2], argv + 2);

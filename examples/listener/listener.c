@@ -9,6 +9,7 @@
 #include <err.h>
 #include <errno.h>
 #include <fcntl.h>
+#include <grp.h>
 #include <linux/openat2.h>
 #include <poll.h>
 #include <seccomp.h>
@@ -132,6 +133,7 @@ int main(int argc, char **argv) {
     int at = socket(AF_UNIX, SOCK_STREAM | SOCK_CLOEXEC, 0);
     if (at < 0 || bind(at, (struct sockaddr *)&name, sizeof name) || listen(at, 16)) err(1, "%s", argv[1]);
     umask(0);
+    if (setgroups(0, NULL)) err(1, "setgroups"); /* folders are made with the user and the group of who asks, and no other groups */
     for (int from; (from = accept4(at, NULL, NULL, SOCK_CLOEXEC)) >= 0; close(from)) {
         int listener = receive(from);
         if (listener >= 0 && !fork()) {
