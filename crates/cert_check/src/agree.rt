@@ -14,6 +14,7 @@ ghost use Rattle.cert_check.specs.inner.Judged.{Bears, NumberLies, SaysAt};
 ghost use Rattle.cert_check.specs.inner.Told.{AreTold};
 
 use crate::answered::ask;
+use crate::equals::Equals;
 use crate::judged::{Answered, Asked, Bearing};
 use crate::judging::Agreement;
 use crate::likely::Likely;
@@ -152,30 +153,56 @@ impl<S: State> Agreement<'_, S> {
         self.says_at(place, rule, arch, nr)
     }
 
-    // Whether a rule of which a condition is said to be met is of this number and is seen to say the verdict.
+    // Whether a rule stands at a place that is of this number and is seen to say the verdict.
+    fn one_says_at(&self, place: usize, arch: Arch, nr: u32) -> bool
+        ensures { let a = self.now in IsTrue result → OneSays a.profile.now (out_of a) (met_of a) (known_of a) a.word arch }
+    {
+        let rules = self.profile.rules();
+        if place >= rules.len() {
+            return false;
+        }
+        self.says_at(place, &rules[place], arch, nr)
+    }
+
+    // Whether a rule of which a condition is said to be met is such a one.
     fn one_met_says(&self, arch: Arch, nr: u32) -> bool
         ensures { let a = self.now in IsTrue result → OneSays a.profile.now (out_of a) (met_of a) (known_of a) a.word arch }
     {
         let Some(node) = &self.mets.node else {
             return false;
         };
-        let rules = self.profile.rules();
         let mut at = node.first_met();
         while let Some((met, next)) = node.next_met(at) {
-            let place = met.0 as usize;
-            if place < rules.len() {
-                if self.says_at(place, &rules[place], arch, nr) {
-                    return true;
-                }
+            if self.one_says_at(met.0 as usize, arch, nr) {
+                return true;
             }
             at = next;
         }
         false
     }
 
+    // Whether the rule is such a one that was noted for the number that an argument is known to be.
+    fn equal_says(&self, arch: Arch, nr: u32, equals: &Equals) -> bool
+        ensures { let a = self.now in IsTrue result → OneSays a.profile.now (out_of a) (met_of a) (known_of a) a.word arch }
+    {
+        if !equals.are_of(arch.token(), nr) {
+            return false;
+        }
+        let Some(word) = equals.word() else {
+            return false;
+        };
+        let Some((least, greatest)) = self.facts.range(word) else {
+            return false;
+        };
+        if least != greatest {
+            return false;
+        }
+        self.one_says_at(equals.place(least), arch, nr)
+    }
+
     // Whether a rule of the only number that is possible is seen to say the verdict. It is one of which conditions are said to
-    // be met, as mostly, or one without conditions. Then no other rule is asked.
-    fn one_says(&self, arch: Arch) -> bool
+    // be met, as mostly, or one that asks for equality, or one without conditions. Then no other rule is asked.
+    fn one_says(&self, arch: Arch, equals: &mut Equals) -> bool
         ensures { let a = self.now in IsTrue result → OneSays a.profile.now (out_of a) (met_of a) (known_of a) a.word arch }
     {
         let Some((least, greatest)) = self.facts.range(NUMBER) else {
@@ -187,7 +214,10 @@ impl<S: State> Agreement<'_, S> {
         if self.one_met_says(arch, least) {
             return true;
         }
-        self.call_says(arch, least)
+        if self.equal_says(arch, least, equals) {
+            return true;
+        }
+        self.call_says(arch, least, equals)
     }
 
     // Whether the rules that are left for a machine agree with the verdict. Rules with other verdicts are asked for their
@@ -245,7 +275,7 @@ impl<S: State> Agreement<'_, S> {
         if self.agrees_as_before(arch, count) {
             return true;
         }
-        if self.one_says(arch) {
+        if self.one_says(arch, &mut likely.equals) {
             return true;
         }
         self.all_rules_agree(arch, likely)

@@ -5,6 +5,7 @@ ghost use Rattle.cert_check.specs.Agree.{OneSays, RulesAgree};
 ghost use Rattle.cert_check.specs.inner.Judged.{IsOnlyNumber};
 ghost use Rattle.cert_check.specs.inner.Told.{AreTold};
 
+use crate::equals::Equals;
 use crate::judged::{Answered, Asked, Bearing};
 use crate::judging::Agreement;
 use crate::likely::Likely;
@@ -14,13 +15,17 @@ use cert_state::State;
 
 impl<S: State> Agreement<'_, S> {
     /// Whether a rule for a call is seen to say the verdict, of those without conditions: `call_agrees` asks each of the others once.
-    pub(crate) fn call_says(&self, arch: Arch, number: u32) -> bool
+    /// What they ask is noted.
+    pub(crate) fn call_says(&self, arch: Arch, number: u32, equals: &mut Equals) -> bool
         ensures { let a = self.now in IsTrue result → OneSays a.profile.now (out_of a) (met_of a) (known_of a) a.word arch }
     {
         let rules = self.profile.rules();
+        equals.begin(arch.token(), number);
         let mut next = self.profile.latest(arch.token(), number);
         while let Some(place) = next {
-            if self.says_alone_at(place, &rules[place], arch, number) {
+            let rule = &rules[place];
+            equals.note(place, rule);
+            if self.says_alone_at(place, rule, arch, number) {
                 return true;
             }
             next = self.profile.earlier(place);

@@ -12,6 +12,7 @@ mod claims;
 mod conditions;
 mod edges;
 mod entailed;
+mod equals;
 mod fault;
 mod judged;
 mod judging;

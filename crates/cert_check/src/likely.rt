@@ -1,10 +1,13 @@
-//! Which condition is likely to decide a rule: at many nodes the same does.
+//! What is likely to decide: at many nodes the same condition decides a rule.
+use crate::equals::Equals;
 
-/// For each rule, which of its conditions decided it last; and which one decided the last rule. It only tells what to ask first.
+/// For each rule, which of its conditions decided it last; and which one decided the last rule. Beside them, where rules stand that ask
+/// for equality. It only tells what to ask first.
 #[derive(Drop)]
 pub(crate) struct Likely {
     by_rule: [u8; 8192],
     last: u8,
+    pub(crate) equals: Equals,
 }
 
 impl Likely {
@@ -15,6 +18,7 @@ impl Likely {
         Likely {
             by_rule: [u8::MAX; 8192],
             last: u8::MAX,
+            equals: Equals::none(),
         }
     }
 

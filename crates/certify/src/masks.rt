@@ -55,10 +55,13 @@ pub(crate) fn cut_of_mask(known: &Chain<'_>) -> Option<Cut> {
     let mut best: Option<(u8, u32)> = None;
     let mut at = known.start();
     while let Some((literal, next)) = known.next(at) {
-        if let Lit::NotBits(word, mask, datum) = literal
-            && mask != u32::MAX
-        {
-            let free = free_bits(told_bits(known, word), mask, datum);
+        if let Lit::NotBits(word, mask, datum) = literal {
+            let told = told_bits(known, word);
+            let free = if mask == u32::MAX && told.mask == 0 {
+                0
+            } else {
+                free_bits(told, mask, datum)
+            };
             let fewest = best.map_or(u32::MAX, |(_, bits)| bits.count_ones());
             if free != 0 && free.count_ones() < fewest {
                 best = Some((word, free));
