@@ -182,29 +182,40 @@ fn put_word(text: &mut String, word: &str) -> Result<bool, AllocError> {
     Ok(true)
 }
 
-// Adds that a word of `adapt` stands twice, if it does. Returns whether it does.
-fn put_twice(text: &mut String, before: &[&str], word: &str) -> Result<bool, AllocError> {
-    if !is_one(ADAPTS, word) || !is_one(before, word) {
+// The words of `learn` that stand once.
+const ONCE: &[&str] = &["for", "else"];
+
+// Adds that a word stands twice, if it is one of these that stand once. Returns whether it does.
+fn put_twice(
+    text: &mut String,
+    once: &[&str],
+    before: &[&str],
+    word: &str,
+) -> Result<bool, AllocError> {
+    if !is_one(once, word) || !is_one(before, word) {
         return Ok(false);
     }
     write!(text, "{word} stands twice")?;
     Ok(true)
 }
 
-// Adds what is wrong with a word of `adapt` behind others, if it is known to be. Returns whether it is.
+// Adds what is wrong with a word of `adapt` or `learn` behind others, if it is known to be. Returns whether it is.
 fn put_behind(
     text: &mut String,
     name: &str,
     words: &[&str],
     word: &str,
 ) -> Result<bool, AllocError> {
+    if name == "learn" {
+        return put_twice(text, ONCE, words, word);
+    }
     if name != "adapt" || words.len() < 2 {
         return Ok(false);
     }
     if put_word(text, word)? {
         return Ok(true);
     }
-    put_twice(text, words, word)
+    put_twice(text, ADAPTS, words, word)
 }
 
 // Adds what is wrong with the first word that asks for nothing, if one is known to. Returns whether one is.
@@ -276,6 +287,7 @@ fn put_nothing(text: &mut String, entry: &Entry, words: &[&str]) -> Result<(), A
     match (entry.4, words) {
         (Command::Manual, [word, ..]) => write!(text, "{word} is no COMMAND"),
         (Command::Review, [_, _, word]) => write!(text, "html is missing behind {word}"),
+        (Command::Join | Command::Meet, [_, _]) => text.push_str("a second BUNDLE is missing"),
         _ => text.push_str("these words ask for nothing"),
     }
 }

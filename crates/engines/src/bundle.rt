@@ -195,7 +195,7 @@ pub(crate) fn bundle_of(
     let mut parts = Vec::new(alloc);
     let place = Place::top(section.top);
     text.put("{\n  \"ociVersion\": ");
-    put_edition(&mut text, changes, settings.family(), config);
+    put_edition(&mut text, changes, settings.family(), (config, section));
     text.begin(",\n  \"linux\": {\n    \"seccomp\": {\n      ");
     put_head(&mut text, changes, settings, place, section.value);
     put_syscalls(

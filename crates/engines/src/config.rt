@@ -76,11 +76,18 @@ fn is_read(family: Family, edition: &str) -> bool {
     is_one_of(editions_of(family), edition)
 }
 
-/// Adds the edition of a configuration: one of the first that is not read is written as one that is.
-pub(crate) fn put_edition(text: &mut Text, changes: &mut Changes, family: Family, config: &Value) {
+/// Adds the edition of a configuration: one of the first that is not read is written as one that is. What is no bundle has none.
+pub(crate) fn put_edition(
+    text: &mut Text,
+    changes: &mut Changes,
+    family: Family,
+    (config, section): (&Value, Section<'_>),
+) {
     let place = Place::top("").key("ociVersion");
     let Some(member) = member_at(config, "ociVersion") else {
-        changes.tell(place, "missing, and written as 1.0.2", false);
+        if section.top == "linux.seccomp." {
+            changes.tell(place, "missing, and written as 1.0.2", false);
+        }
         return text.put(EDITION);
     };
     let edition = member.as_str().unwrap_or("");

@@ -1,5 +1,6 @@
 //! Errors by their names (errno(3); include/uapi/asm-generic/errno.h).
 use crate::capabilities::place_of;
+use crate::kernels::number_of;
 
 // The names by their numbers, with an empty one where there is none.
 const ERRORS: &[&str] = &[
@@ -139,8 +140,11 @@ const ERRORS: &[&str] = &[
     "",
 ];
 
-/// The number of an error, or of one by its second name.
+/// The number of an error, of one by its second name, or of one that is written in digits.
 pub(crate) fn error_named(name: &str) -> Option<usize> {
+    if let Some(number) = number_of(name) {
+        return Some(number as usize);
+    }
     match name {
         "" => None,
         "EWOULDBLOCK" => Some(11),

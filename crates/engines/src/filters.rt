@@ -1,4 +1,6 @@
 //! For which containers an entry of an engine's own profile counts.
+use crate::actions::text_at;
+use crate::capabilities::Engine;
 use crate::changes::Changes;
 use crate::kernels::{Kernel, kernel_of};
 use crate::keys::{FILTER, is_one_of, is_void, tell_unknown};
@@ -38,10 +40,12 @@ fn list_at<'a>(entry: &'a Value, filter: &str, key: &str) -> &'a [Value] {
     }
 }
 
-// The edition of a kernel in a filter, if there is one.
+// The edition of a kernel in a filter, if there is one. An empty one is that of each kernel, as docker reads it.
 fn edition_in(entry: &Value, filter: &str) -> Option<Kernel> {
-    let edition = member_of(entry, filter, "minKernel")?;
-    kernel_of(edition.as_str()?)
+    match member_of(entry, filter, "minKernel")?.as_str()? {
+        "" => Some(Kernel::LEAST),
+        edition => kernel_of(edition),
+    }
 }
 
 // Whether a list has a text.
@@ -121,7 +125,7 @@ fn counts_for(
         tell_not_counting(changes, place, "without", name);
         return false;
     }
-    if is_for_other_kernels(container, entry) {
+    if container.capabilities.engine != Engine::Podman && is_for_other_kernels(container, entry) {
         tell_other_kernel(changes, place, container.kernel);
         return false;
     }
@@ -138,13 +142,22 @@ fn are_texts(list: &[Value]) -> bool {
     true
 }
 
+// Whether docker reads a text as an edition: two numbers of at most 255, and not 0.0.
+fn is_edition(text: &str) -> bool {
+    match kernel_of(text) {
+        Some(Kernel::LEAST) => false,
+        Some(kernel) => kernel.major <= 255 && kernel.minor <= 255,
+        None => false,
+    }
+}
+
 // Whether a member of a filter is one that is read: a list of texts, or an edition of a kernel.
 fn is_read(key: &str, member: &Value) -> bool {
     if is_void(member) {
         return true;
     }
     if key == "minKernel" {
-        return kernel_of(member.as_str().unwrap_or("")).is_some();
+        return is_edition(member.as_str().unwrap_or(""));
     }
     match member.as_array() {
         Some(list) => are_texts(list.as_slice()),
@@ -152,8 +165,28 @@ fn is_read(key: &str, member: &Value) -> bool {
     }
 }
 
+// Tells what is not read of a member of a filter.
+fn tell_member(
+    changes: &mut Changes,
+    settings: &Settings<'_>,
+    place: Place<'_>,
+    key: &str,
+    member: &Value,
+) {
+    if key == "minKernel" && settings.is_for_podman() {
+        if !is_void(member) {
+            changes.tell_text(place, key, "is read by docker alone, and left out", false);
+        }
+        return;
+    }
+    if is_one_of(FILTER, key) && !is_read(key, member) {
+        let why = "a member that is no list of texts, or no kernel's edition";
+        changes.refuse(place, why);
+    }
+}
+
 // Tells what is not read of a filter.
-fn tell_filter(changes: &mut Changes, place: Place<'_>, filter: &Value) {
+fn tell_filter(changes: &mut Changes, settings: &Settings<'_>, place: Place<'_>, filter: &Value) {
     let Some(members) = filter.as_object() else {
         if !filter.is_null() {
             changes.refuse(place, "no object, where one is asked for");
@@ -162,12 +195,28 @@ fn tell_filter(changes: &mut Changes, place: Place<'_>, filter: &Value) {
     };
     tell_unknown(changes, place, filter, FILTER);
     for (key, member) in members.iter() {
-        if is_one_of(FILTER, key.as_str()) && !is_read(key.as_str(), member) {
-            changes.refuse(
-                place,
-                "a member that is no list of texts, or no kernel's edition",
-            );
+        tell_member(changes, settings, place, key.as_str(), member);
+    }
+}
+
+// The keys of the filters of an entry.
+const FILTERS: &[&str] = &["includes", "excludes"];
+
+/// What is told of a member that containerd passes over.
+pub(crate) const PASSED_OVER: &str = "is read by docker and podman alone, and left out";
+
+// Tells what containerd passes over of an entry.
+fn tell_passed_over(changes: &mut Changes, place: Place<'_>, entry: &Value) {
+    for key in FILTERS {
+        if let Some(filter) = entry.get(*key)
+            && !is_void(filter)
+        {
+            changes.tell(place.key(*key), PASSED_OVER, false);
         }
+    }
+    if text_at(entry, "name") != "" {
+        let why = "is read by docker and podman alone: write names";
+        changes.refuse(place.key("name"), why);
     }
 }
 
@@ -181,11 +230,15 @@ pub(crate) fn counts(
     let Some(container) = settings.container() else {
         return true;
     };
+    if settings.is_for_containerd() {
+        tell_passed_over(changes, place, entry);
+        return true;
+    }
     if let Some(filter) = entry.get("includes") {
-        tell_filter(changes, place.key("includes"), filter);
+        tell_filter(changes, settings, place.key("includes"), filter);
     }
     if let Some(filter) = entry.get("excludes") {
-        tell_filter(changes, place.key("excludes"), filter);
+        tell_filter(changes, settings, place.key("excludes"), filter);
     }
     counts_for(changes, settings.native, container, place, entry)
 }

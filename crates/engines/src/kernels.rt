@@ -19,6 +19,9 @@ pub(crate) const TABLES: Kernel = Kernel {
 };
 
 impl Kernel {
+    /// The edition that each kernel has.
+    pub(crate) const LEAST: Kernel = Kernel { major: 0, minor: 0 };
+
     /// Whether this one is an edition or a later one.
     pub(crate) fn has(self, edition: Kernel) -> bool {
         if self.major != edition.major {
@@ -36,9 +39,9 @@ fn value(digits: &str) -> Option<u32>
     u32::from_str_radix(digits, 10).ok()
 }
 
-// The number of decimal digits, where 32 bits hold it.
+/// The number of decimal digits, where 32 bits hold it.
 #[tactic(auto, unfolding(crate::specs::Words::number_at))]
-fn number_of(text: &str) -> Option<u32>
+pub(crate) fn number_of(text: &str) -> Option<u32>
     ensures { result ≡ number_at text.now }
 {
     if is_decimal(text) { value(text) } else { None }

@@ -22,8 +22,12 @@ pub(crate) const SECTION: Known = Known {
         "defaultErrno",
         "comment",
         "$schema",
+        OTHER_MACHINES,
     ],
 };
+
+// What `recover` writes of a filter that allows calls of other machines.
+const OTHER_MACHINES: &str = "x-ccell-otherMachines";
 
 /// The keys of an entry.
 pub(crate) const ENTRY: Known = Known {
@@ -123,6 +127,9 @@ const NEEDS_FOR: &str =
 
 // Tells what is to be told of a key that is known, and its member.
 fn tell_known(changes: &mut Changes, place: Place<'_>, key: &str, member: &Value, is_for: bool) {
+    if key == OTHER_MACHINES {
+        return changes.tell(place, "no engine reads it, and it is left out", false);
+    }
     if is_one_of(KEYS_OF_PROFILES, key) {
         if !is_for && !is_void(member) {
             changes.refuse(place, NEEDS_FOR);

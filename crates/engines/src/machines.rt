@@ -1,6 +1,7 @@
 //! The machines that a section lists.
 use crate::actions::{says_kill_process, text_at};
 use crate::changes::Changes;
+use crate::filters::PASSED_OVER;
 use crate::keys::{MACHINES, is_void, member_at, tell_unknown};
 use crate::place::Place;
 use crate::settings::Settings;
@@ -186,7 +187,10 @@ pub(crate) fn put_machines(
     section: &Value,
 ) {
     if settings.container().is_some() && says_something(section, "archMap") {
-        return put_mapped(text, changes, settings, place, section);
+        if !settings.is_for_containerd() {
+            return put_mapped(text, changes, settings, place, section);
+        }
+        changes.tell(place.key("archMap"), PASSED_OVER, false);
     }
     put_listed(text, changes, settings.native, place, section);
 }

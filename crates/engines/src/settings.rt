@@ -1,4 +1,5 @@
 //! What is known wherever a part of a configuration is judged.
+use crate::capabilities::Engine;
 use crate::dropped::Dropped;
 use crate::parts::Part;
 use crate::words::{Container, Wanted};
@@ -21,6 +22,25 @@ impl Settings<'_> {
     /// The container for which an engine's own profile is worked out, if it is.
     pub(crate) fn container(&self) -> Option<Container> {
         self.wanted.container
+    }
+
+    /// Whether a profile is worked out for podman. It alone reads an error by its name, and docker alone the edition of a kernel
+    /// (types.go of containers/common, seccomp.go of moby).
+    pub(crate) fn is_for_podman(&self) -> bool {
+        self.is_for(Engine::Podman)
+    }
+
+    /// Whether one is worked out for containerd. It reads what stands in a section of a config alone (WithProfile of its
+    /// contrib/seccomp).
+    pub(crate) fn is_for_containerd(&self) -> bool {
+        self.is_for(Engine::Containerd)
+    }
+
+    fn is_for(&self, engine: Engine) -> bool {
+        match self.wanted.container {
+            Some(container) => container.capabilities.engine == engine,
+            None => false,
+        }
     }
 
     /// Whether a name of what is written for an entry gives way.

@@ -51,18 +51,31 @@ fn put_action(text: &mut Text, object: &Value, key: &str) {
     put_pair(text, key, KILL);
 }
 
-// Tells an error by a name that is not known.
-fn tell_error(changes: &mut Changes, place: Place<'_>, object: &Value, keys: VerdictKeys) {
+// Tells an error by its name that is left out, or is not known.
+fn tell_error(
+    changes: &mut Changes,
+    settings: &Settings<'_>,
+    place: Place<'_>,
+    object: &Value,
+    keys: VerdictKeys,
+) {
     let name = text_at(object, keys.name);
-    if name != "" && error_named(name).is_none() {
+    if name == "" {
+        return;
+    }
+    if !settings.is_for_podman() {
+        let what = "is read by podman alone, and left out";
+        return changes.tell_text(place.key(keys.name), name, what, false);
+    }
+    if error_named(name).is_none() {
         changes.refuse(place.key(keys.name), "no error that is known");
     }
 }
 
-// Adds the error of an action. One by its name counts before one by its number, as podman reads it.
-fn put_error(text: &mut Text, object: &Value, keys: VerdictKeys) {
+// Adds the error of an action. For podman one by its name counts before one by its number.
+fn put_error(text: &mut Text, settings: &Settings<'_>, object: &Value, keys: VerdictKeys) {
     let name = text_at(object, keys.name);
-    if name == "" {
+    if name == "" || !settings.is_for_podman() {
         return put_member(text, object, keys.number);
     }
     if let Some(number) = error_named(name) {
@@ -89,7 +102,7 @@ pub(crate) fn tell_verdict(
         return changes.tell_text(place.key(keys.action), action, what, false);
     }
     tell_action(changes, place, object, keys.action);
-    tell_error(changes, place, object, keys);
+    tell_error(changes, settings, place, object, keys);
 }
 
 /// Adds an action and its error, or that the call is logged where refusals are to be.
@@ -103,5 +116,5 @@ pub(crate) fn put_verdict(
         return put_pair(text, keys.action, LOG);
     }
     put_action(text, object, keys.action);
-    put_error(text, object, keys);
+    put_error(text, settings, object, keys);
 }

@@ -1,5 +1,5 @@
 -- What is told of the lines that a kernel's audit writes of filters, as dmesg, journald, auditd and `ausearch -i` show them.
-use Rattle.std.specs.Prelude.{ℕ, ◌≡◌, ◌≢◌, ◌⊎◌, ◌↔◌, ◌==◌, ◌^◌, ◌&&◌, ◌||◌, nat_lt, not, Bool, true, false, if◌then◌else◌, List, [], ◌∷◌}
+use Rattle.std.specs.Prelude.{ℕ, ◌≡◌, ◌≢◌, ◌⊎◌, ◌↔◌, ◌==◌, ◌-◌, ◌^◌, ◌&&◌, ◌||◌, nat_lt, not, Bool, true, false, if◌then◌else◌, List, [], ◌∷◌}
 use Rattle.std.specs.Prelude.{◌++◌, Option, Some, None, codes, count_by, filter_map, is_none, is_some, length, map, option_and_then, take}
 use Rattle.std.specs.Fmt.{decimal}
 use Rattle.std.specs.List.{All, list_any, slice_split}
@@ -126,9 +126,20 @@ named_number machine name = do
   arch ← machine_named machine
   call_named arch name
 
+-- Linux writes a number as a signed one of 32 bits: one from 2^31 on is 2^32 less, and stands behind a minus
+abbrev pub unsigned_of : ℕ → Option ℕ
+unsigned_of size = if (size == 0) || nat_lt 0x80000000 size then None else Some (0x100000000 - size)
+
+unfoldable pub negative_of : List ℕ → Option ℕ
+negative_of text = do
+  digits ← behind (codes "-") text
+  size ← decimal_of digits
+  unsigned_of size
+
 -- the number of the call
 unfoldable pub call_in : List ℕ → List ℕ → Option ℕ
-call_in machine text = option_or (option_or (decimal_of text) (unknown_number text)) (named_number machine text)
+call_in machine text =
+    option_or (option_or (option_or (decimal_of text) (negative_of text)) (unknown_number text)) (named_number machine text)
 
 -- auditd's names of actions. It has kill or kill-thread for both kills.
 unfoldable pub action_named : List ℕ → Option Answer

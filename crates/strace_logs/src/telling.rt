@@ -91,7 +91,10 @@ fn put_keeps(text: &mut String, keeps: &[Keep<'_>], calls: &Calls) -> Result<(),
                 "{name} lacks an argument that is kept, so it is allowed whatever its arguments"
             )?;
         } else {
-            writeln!(text, "{name} is allowed with {count} sets of values")?;
+            writeln!(
+                text,
+                "{name}: the logs have {count} sets of values, which are allowed"
+            )?;
         }
     }
     Ok(())
@@ -125,7 +128,7 @@ fn put_added(text: &mut String, names: &Names) -> Result<(), AllocError> {
     put_names(text, "needed, and not in the logs:", &names.needed)?;
     put_names(
         text,
-        "fails with ENOSYS, so that programs fall back:",
+        "fails with ENOSYS unless a group or the bundle of from allows it, so that programs fall back:",
         &names.missing,
     )
 }

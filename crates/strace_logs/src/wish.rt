@@ -106,8 +106,22 @@ fn put_words<'a>(native: Arch, wish: &mut Wish<'a>, words: &[&'a str]) -> Result
     Ok(mark.is_none())
 }
 
-/// What words ask for: files of logs, one at least, and among them `keep CALL:ARG[,ARG]`, `for crun|runc|bwrap` and
-/// `else errno|enosys|log|kill`.
+// Whether a word stands twice.
+fn stands_twice(words: &[&str], word: &str) -> bool {
+    let mut stood = false;
+    for other in words {
+        if *other == word {
+            if stood {
+                return true;
+            }
+            stood = true;
+        }
+    }
+    false
+}
+
+/// What words ask for: files of logs, one at least, and among them `keep CALL:ARG[,ARG]`, and once at most each
+/// `for crun|runc|bwrap|docker|podman` and `else errno|enosys|log|kill`.
 pub fn wish_of<'a>(
     alloc: Global,
     native: Arch,
@@ -116,6 +130,9 @@ pub fn wish_of<'a>(
     ensures { IfOk result (λ asked. IfSome asked (λ wish.
         AskFor (map (λ w. w.now) words.now) (map (λ log. log.now) wish.logs.items) wish.runtime wish.otherwise)) }
 {
+    if stands_twice(words, "for") || stands_twice(words, "else") {
+        return Ok(None);
+    }
     let mut wish = Wish {
         logs: Vec::new(alloc),
         keeps: Vec::new(alloc),

@@ -52,6 +52,26 @@ fn decimal_value(text: &str) -> Option<u32>
     u32::try_from(decimal(text)?).ok()
 }
 
+// The number of which Linux writes so much less than 2^32.
+fn unsigned(size: u32) -> Option<u32>
+    ensures { result ≡ spec.unsigned_of size }
+{
+    if size == 0 || size > 0x8000_0000 {
+        None
+    } else {
+        Some(u32::MAX - (size - 1))
+    }
+}
+
+// A number from 2^31 on, which Linux writes as a negative one.
+#[tactic(auto, unfolding(crate::specs::Audit::negative_of))]
+fn negative_value(text: &str) -> Option<u32>
+    ensures { result ≡ spec.negative_of text.now }
+{
+    let digits = rest_behind("-", text)?;
+    unsigned(decimal_value(digits)?)
+}
+
 // The machine that auditd calls so. It says armeb of little-endian ARM.
 #[tactic(auto, unfolding(crate::specs::Audit::machine_named))]
 fn machine_named(word: &str) -> Option<Arch>
@@ -152,6 +172,7 @@ pub(crate) fn call(machine: &str, text: &str) -> Option<u32>
     ensures { result ≡ spec.call_in machine.now text.now }
 {
     decimal_value(text)
+        .or(negative_value(text))
         .or(unknown_number(text))
         .or(named_number(machine, text))
 }
