@@ -1,11 +1,12 @@
 -- Texts that are written part by part.
 use Rattle.std.proofs.Common.{◌≡◌, ◌≤◌, ℕ, List, [], ◌∷◌, ◌++◌, ap, append_assoc, arith, codes, inr, length, refl, ◌∙◌}
-use Rattle.std.specs.Prelude.{Bool, IfOk, Result, Ok, Err}
+use Rattle.std.specs.Prelude.{Bool, false, IfOk, Result, Ok, Err}
 use Rattle.std.specs.declared.alloc.AllocError.{AllocError}
 use Rattle.call_tables.specs.declared.arch.Arch.{Arch}
 use Rattle.compare.specs.Told.{IsCompared}
 use Rattle.wording.specs.declared.told.Told.{Told}
 use Rattle.cli.specs.Compared.{TellsCompared, TellsSides, side_rest}
+use Rattle.cli.specs.Refusal.{is_refusal}
 
 -- two parts behind what was there
 pub appended : (old first second between new value : List ℕ) → between ≡ old ++ first → new ≡ between ++ value → value ≡ second
@@ -20,7 +21,7 @@ some_rest (byte ∷ bytes) some = refl
 
 -- two bundles are compared, and what stands beside their profiles is told
 pub told_beside : (atmost : Bool) (native : Arch) (first second : List ℕ) (inner : Told) (result : Result Told AllocError)
-    → IsCompared atmost native first second inner → IfOk result (TellsSides native first second inner)
-    → IfOk result (TellsCompared atmost native first second)
-told_beside atmost native first second inner (Ok told) is sides = record { inner = inner; is = is; text = inr sides }
-told_beside atmost native first second inner (Err e) is sides = tt
+    → IsCompared atmost native first second inner → is_refusal inner.bytes.items ≡ false
+    → IfOk result (TellsSides native first second inner) → IfOk result (TellsCompared atmost native first second)
+told_beside atmost native first second inner (Ok told) is none sides = record { inner = inner; is = is; text = inr (none, sides) }
+told_beside atmost native first second inner (Err e) is none sides = tt

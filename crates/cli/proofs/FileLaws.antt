@@ -246,18 +246,24 @@ module _ (native : Arch) (bundle filter f : List ℕ) (enough : IsEnough 32768 f
 -- the bundle that is made of a filter, as words ask that leave calls out or none
 left_of_file : (filter f : List ℕ) (enough : IsEnough 32768 filter f) (native : Arch) (words : List (List ℕ)) (told : Told) (out : Bool)
     → TellsBy out native words f told → TellsBy out native words filter told
-left_of_file filter f enough native words told true h =
-    λ done. let is = h done in
-    subst (λ b. (lines : List ℕ) × IsToldBut native b (has_word (codes "runc") words) (leave_in words) told.bytes.items lines)
-    (whole_filter filter f enough is.1.recovered.accepted.program) is
-left_of_file filter f enough native words told false h =
-    λ done. let is = h done in subst (λ b. IsRecovered native told.bytes.items b) (whole_filter filter f enough is.program) is
+left_of_file filter f enough native words told true h = (
+  λ done. let is = h.0 done in
+      subst (λ b. (lines : List ℕ) × IsToldBut native b (has_word (codes "runc") words) (leave_in words) told.bytes.items lines)
+      (whole_filter filter f enough is.1.recovered.accepted.program) is,
+  h.1,
+)
+left_of_file filter f enough native words told false h = (
+  λ done. let is = h.0 done in subst (λ b. IsRecovered native told.bytes.items b) (whole_filter filter f enough is.program) is,
+  h.1,
+)
 
 -- or as they ask that the filter allows other calls
 pub recovered_of_file : (filter f : List ℕ) (enough : IsEnough 32768 filter f) (native : Arch) (words : List (List ℕ)) (told : Told) (others : Bool)
     → TellsIf others native words f told → TellsIf others native words filter told
-recovered_of_file filter f enough native words told true h =
-    λ done. let is = h done in subst (λ b. IsRecoveredOthers native told.bytes.items b) (whole_filter filter f enough is.is.program) is
+recovered_of_file filter f enough native words told true h = (
+  λ done. let is = h.0 done in subst (λ b. IsRecoveredOthers native told.bytes.items b) (whole_filter filter f enough is.is.program) is,
+  h.1,
+)
 recovered_of_file filter f enough native words told false h = left_of_file filter f enough native words told (leaves_out words) h
 
 -- what is shown of a filter

@@ -1,5 +1,5 @@
 -- What `compare` tells of two bundles: what its name says of their profiles, and before it what stands beside these, if that is unlike.
-use Rattle.std.specs.Prelude.{ℕ, ◌≡◌, ◌⊎◌, Bool, true, List, [], ◌∷◌, ◌++◌, codes, if◌then◌else◌}
+use Rattle.std.specs.Prelude.{ℕ, ◌≡◌, ◌⊎◌, Bool, true, false, List, [], ◌∷◌, ◌++◌, codes, if◌then◌else◌}
 use Rattle.std.specs.Str.{bytes_eq}
 use Rattle.call_tables.specs.declared.arch.Arch.{Arch}
 use Rattle.compare.specs.Told.{IsCompared}
@@ -35,4 +35,5 @@ pub record TellsSides (native : Arch) (first second : List ℕ) (inner told : To
 pub record TellsCompared (atmost : Bool) (native : Arch) (first second : List ℕ) (told : Told) : Type 0 where
   pub inner : Told
   pub is : IsCompared atmost native first second inner
-  pub text : ((is_refusal inner.bytes.items ≡ true) × (told ≡ inner)) ⊎ TellsSides native first second inner told
+  pub text : ((is_refusal inner.bytes.items ≡ true) × (told ≡ inner))
+      ⊎ ((is_refusal inner.bytes.items ≡ false) × TellsSides native first second inner told)

@@ -43,11 +43,12 @@ pub record TellsPage (native : Arch) (name bundle : List ℕ) (told : Told) : Ty
   pub is_reviewed : IsReviewed native bundle review
   pub page : ((review.done ≡ false) × (told ≡ review)) ⊎ ((review.done ≡ true) × IsPaged native name bundle review told)
 
--- the same of two bundles
+-- the same of two bundles: the first of them that is refused is told, and a page only if both were done
 pub record TellsPages (native : Arch) (old_name new_name old new : List ℕ) (told : Told) : Type 0 where
   pub first : Told
   pub is_first : IsReviewed native old first
   pub second : Told
   pub is_second : IsReviewed native new second
   pub page : ((first.done ≡ false) × (told ≡ first))
-      ⊎ (((second.done ≡ false) × (told ≡ second)) ⊎ ArePaged native old_name new_name old new first second told)
+      ⊎ ((first.done ≡ true) × (((second.done ≡ false) × (told ≡ second))
+      ⊎ ((second.done ≡ true) × ArePaged native old_name new_name old new first second told)))

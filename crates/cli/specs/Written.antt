@@ -16,11 +16,15 @@ abbrev pub NamesForm : List (List ℕ) → List (List ℕ) → Bool → Type 0
 NamesForm words others true = AskBundle words others
 NamesForm words others false = (words ≡ others) × ((more : List (List ℕ)) → ¬ AskBundle words more)
 
--- The section of a bundle that was made; or none was made, which is told.
+-- if it was not done, nothing is written
+abbrev pub IsEmptyUnlessDone : Told → Type 0
+IsEmptyUnlessDone told = told.done ≡ false → told.bytes.items ≡ []
+
+-- The section of a bundle that was made, or nothing. Or none was made, which is told.
 abbrev pub IsItsSection : Arch → Told → Told → Type 0
 IsItsSection native made told =
     ((made.done ≡ false) × (told ≡ made))
-    ⊎ ((made.done ≡ true) × (told.done ≡ true → IsSectionOf native made.bytes.items told.bytes.items))
+    ⊎ ((made.done ≡ true) × ((told.done ≡ true → IsSectionOf native made.bytes.items told.bytes.items) × IsEmptyUnlessDone told))
 
 -- Where all calls of Linux are meant, a section is written. For the machines of the chosen lists, where none is read, it is the bundle.
 abbrev pub IsWrittenFor : Family → Arch → Told → Told → Type 0

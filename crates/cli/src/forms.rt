@@ -2,7 +2,7 @@
 ghost use Rattle.std.specs.Prelude.{◌≡◌, ◌↔◌, IfOk, IsTrue, codes, map, true};
 ghost use Rattle.call_tables.specs.Arch.{family_of};
 ghost use Rattle.section.specs.Sections.{IsSectionOf};
-ghost use Rattle.cli.specs.Written.{IsItsSection, IsWritten, IsWrittenFor, NamesForm};
+ghost use Rattle.cli.specs.Written.{IsEmptyUnlessDone, IsItsSection, IsWritten, IsWrittenFor, NamesForm};
 ghost use Rattle.cli.specs.inner.Telling.{IsInForm, told_in};
 
 use crate::adapting::Both;
@@ -50,7 +50,8 @@ fn its_section(
     bundle: &[u8],
     changes: &mut String,
 ) -> Result<Told, AllocError>
-    ensures { IfOk result (λ told. told.done ≡ true → IsSectionOf native bundle.now told.bytes.items) }
+    ensures section { IfOk result (λ told. told.done ≡ true → IsSectionOf native bundle.now told.bytes.items) }
+    ensures empty { IfOk result IsEmptyUnlessDone }
 {
     match section_of(alloc, native, bundle)? {
         Some(text) => {

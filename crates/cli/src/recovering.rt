@@ -99,7 +99,8 @@ fn found_others(alloc: Global, bundle: String) -> Result<Both, AllocError>
 
 // That none was found, and why.
 fn none(alloc: Global, changes: String) -> Both
-    ensures { result.told.done ≡ false }
+    ensures done { result.told.done ≡ false }
+    ensures empty { result.told.bytes.items ≡ [] }
 {
     let told = Told {
         bytes: Vec::new(alloc),
@@ -110,7 +111,8 @@ fn none(alloc: Global, changes: String) -> Both
 
 // Why none was found.
 fn untold(alloc: Global, native: Arch, unsaid: &Unsaid) -> Result<Both, AllocError>
-    ensures { IfOk result (λ both. both.told.done ≡ false) }
+    ensures done { IfOk result (λ both. both.told.done ≡ false) }
+    ensures empty { IfOk result (λ both. both.told.bytes.items ≡ []) }
 {
     let changes = line_of(alloc, native, unsaid)?;
     Ok(none(alloc, changes))
@@ -144,7 +146,8 @@ fn bundle_but(
 
 // Why none was found where other calls are allowed.
 fn unallowed(alloc: Global, native: Arch, why: &Unallowed) -> Result<Both, AllocError>
-    ensures { IfOk result (λ both. both.told.done ≡ false) }
+    ensures done { IfOk result (λ both. both.told.done ≡ false) }
+    ensures empty { IfOk result (λ both. both.told.bytes.items ≡ []) }
 {
     let changes = recover_others::line_of(alloc, native, why)?;
     Ok(none(alloc, changes))
@@ -165,7 +168,8 @@ const ALONE: &str =
 
 // What tells that no words that leave calls out stand beside `others`.
 fn refused(alloc: Global) -> Result<Both, AllocError>
-    ensures { IfOk result (λ both. both.told.done ≡ false) }
+    ensures done { IfOk result (λ both. both.told.done ≡ false) }
+    ensures empty { IfOk result (λ both. both.told.bytes.items ≡ []) }
 {
     let changes = String::from_str(alloc, ALONE)?;
     Ok(none(alloc, changes))

@@ -11,6 +11,7 @@ use Rattle.kernel_check.specs.declared.fault.Refused.{Refused}
 use Rattle.kernel_check.specs.Accepted.{IsRefusal}
 use Rattle.kernel_check.specs.Fault.{text_of as refusal_text}
 use Rattle.wording.specs.declared.told.Told.{Told}
+use Rattle.compare.specs.Behind.{AreAccepted}
 use Rattle.compare.specs.Outcome.{line_of}
 use Rattle.compare.specs.declared.change.Change.{Change}
 use Rattle.compare.specs.Differ.{AnswerUnlike}
@@ -27,12 +28,16 @@ IsWrong filter place (NoProgram e at) = (at ≡ place) × (view_fault filter ≡
 IsWrong filter place (Refusal e at) = (at ≡ place) × IsRefusal (insns_of filter) e
 IsWrong filter place other = ⊥
 
--- What is so of the bytes of two filters: that they are the same, or that the filters answer unlike verdicts to calls. That none was found
--- says nothing. Or the bytes of the first or the second one are wrong.
+-- the bytes are unlike, and both are programs that the kernel accepts
+abbrev pub AreUnlikeFilters : List ℕ → List ℕ → Type 0
+AreUnlikeFilters old new = (old ≢ new) × (AreAccepted old × AreAccepted new)
+
+-- What is so of the bytes of two filters: that they are the same filter, or that the filters answer unlike verdicts to calls. That none was
+-- found says only that both are filters. Or the bytes of the first or the second one are wrong.
 abbrev pub IsOutcome : List ℕ → List ℕ → Outcome → Type 0
-IsOutcome old new Same = old ≡ new
+IsOutcome old new Same = (old ≡ new) × AreAccepted old
 IsOutcome old new (Differ changes) = (changes.items ≢ []) × All (IsUnlike (insns_of old) (insns_of new)) changes.items
-IsOutcome old new NoneFound = Unit {0}
+IsOutcome old new NoneFound = AreUnlikeFilters old new
 IsOutcome old new other = IsWrong old 1 other ⊎ IsWrong new 2 other
 
 -- the line of a filter whose bytes are no program, and of one that the kernel refuses
@@ -54,7 +59,7 @@ abbrev pub is_done : Outcome → Bool
 is_done Same = true
 is_done other = false
 
--- what is told is the text of what is so, and only of filters with the same bytes that it was done
+-- what is told is the text of what is so, and it was done only of filters with the same bytes
 pub record IsTold (old new : List ℕ) (told : Told) : Type 0 where
   pub outcome : Outcome
   pub is : IsOutcome old new outcome

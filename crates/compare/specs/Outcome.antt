@@ -20,10 +20,11 @@ use Rattle.compare.specs.declared.search.Crowded.{Crowded}
 use Rattle.compare.specs.declared.sides.Sides.{Sides}
 use Rattle.compare.specs.declared.sides.Sides.TheVariants.{Alike, NoMore, NoLess, MoreAndLess}
 
--- what is so of two profiles: each call that differs is told, or it is one of those that are not decided
+-- what is so of two profiles: each call that differs is told, of which there is one at least, or it is one of those that are not decided
 abbrev pub IsComparison : Family → Policy → Policy → Comparison → Type 0
 IsComparison family p q Same = SayTheSame p q
-IsComparison family p q (Differ changes sides) = AreListed family p q changes.items [] × IsSides p q changes.items sides
+IsComparison family p q (Differ changes sides) =
+    (changes.items ≢ []) × (AreListed family p q changes.items [] × IsSides p q changes.items sides)
 IsComparison family p q (Undecided changes crowded) = AreListed family p q changes.items crowded.items × (crowded.items ≢ [])
 
 -- ---- the text

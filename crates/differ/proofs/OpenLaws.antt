@@ -17,8 +17,8 @@ use Rattle.profile.specs.Said.{is_native, matches, meets, said}
 use Rattle.differ.specs.Cells.{AreAlike}
 use Rattle.differ.specs.declared.direction.Direction.{Direction}
 use Rattle.differ.specs.declared.opened.Open.{Open}
-use Rattle.differ.specs.OnCall.{AreLikeOn, IsOfCall, conditions_on, is_for, on_argument, rules_for}
-use Rattle.differ.specs.inner.Open.{AreOpen, is_met_at, is_open, met_at, met_before, open_on}
+use Rattle.differ.specs.OnCall.{AreLikeOn, IsOfCall, conditions_on, is_for, on_argument, rules_for, is_met_at, met_at}
+use Rattle.differ.specs.inner.Open.{AreOpen, is_open, met_before, open_on}
 
 -- ---- tests and filters
 

@@ -15,8 +15,8 @@ use Rattle.profile.specs.Rule.{argument_of}
 use Rattle.profile.specs.Said.{meets}
 use Rattle.differ.specs.Cells.{AreAlike}
 use Rattle.differ.specs.declared.direction.Direction.{Direction}
-use Rattle.differ.specs.OnCall.{AreLikeOn, IsOfCall, bits_of, conditions_on, on_argument}
-use Rattle.differ.specs.inner.Open.{AreOpen, HasFirst, IsStopped, is_met_at, open_on}
+use Rattle.differ.specs.OnCall.{AreLikeOn, IsOfCall, bits_of, conditions_on, on_argument, is_met_at}
+use Rattle.differ.specs.inner.Open.{AreOpen, HasFirst, IsStopped, open_on}
 use Rattle.differ.specs.declared.opened.Open.{Open}
 use Rattle.differ.specs.declared.listed.Unlisted.{Unlisted}
 use Rattle.differ.specs.declared.listed.Unlisted.TheVariants.{TooMany, OutOfMemory}

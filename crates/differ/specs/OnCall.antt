@@ -1,6 +1,6 @@
 -- What two profiles say of the records of one call.
-use Rattle.std.specs.Prelude.{◌≡◌, ℕ, ◌+◌, ◌<◌, ◌*◌, ◌==◌, ◌&&◌, ◌++◌, ⊤, Bool, false, true, ◌⊎◌, if◌then◌else◌, List, length, filter}
-use Rattle.std.specs.List.{flat_map}
+use Rattle.std.specs.Prelude.{◌≡◌, ℕ, ◌+◌, ◌<◌, ◌*◌, ◌==◌, ◌&&◌, ◌||◌, ◌++◌, ⊤, not, Bool, false, true, ◌⊎◌, if◌then◌else◌, List, length, filter}
+use Rattle.std.specs.List.{flat_map, list_all}
 use Rattle.call_record.specs.Words.{IsRecord, word}
 use Rattle.call_record.specs.Record.{words}
 use Rattle.call_tables.specs.Arch.{token_of}
@@ -8,6 +8,7 @@ use Rattle.call_tables.specs.Width.{is_narrow}
 use Rattle.profile.specs.declared.conditions.Cond.{Cond}
 use Rattle.profile.specs.declared.rules.Rule.{Rule}
 use Rattle.profile.specs.Policy.{Policy, Says}
+use Rattle.profile.specs.Said.{meets}
 use Rattle.differ.specs.Cells.{AreCells, AreTooMany}
 use Rattle.differ.specs.Direction.{tells}
 use Rattle.differ.specs.declared.direction.Direction.{Direction}
@@ -56,6 +57,13 @@ on_argument j rule = filter (λ c. c.index == j) rule.conds.items
 
 abbrev pub conditions_on : ℕ → List Rule → List Cond
 conditions_on j rules = flat_map (on_argument j) rules
+
+-- the condition is on another argument, or this number meets it
+abbrev pub met_at : ℕ → ℕ → Cond → Bool
+met_at j u c = not (c.index == j) || meets c u
+
+abbrev pub is_met_at : ℕ → ℕ → Rule → Bool
+is_met_at j u rule = list_all (met_at j u) rule.conds.items
 
 -- those of two profiles for the call
 abbrev pub conditions_of : Policy → Policy → ℕ → ℕ → ℕ → List Cond

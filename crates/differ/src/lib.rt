@@ -22,5 +22,5 @@ pub use gathered::{Differences, all_differences, differences_in};
 pub use listed::{MOST_CELLS, Unlisted, cells};
 pub use named::{Call, add_rules as name_calls};
 pub use on_call::{MOST_COMBINATIONS, differ_on};
-pub use opened::{add_rules as add_conditions, rules_for};
+pub use opened::{add_rules as add_conditions, rules_for, rules_with};
 pub use walk::bits_of;

@@ -1,7 +1,7 @@
 //! The rules of two profiles that a record may match, as far as its arguments are known.
 ghost use Rattle.std.specs.Prelude.{◌≡◌, ◌==◌, ◌++◌, IfOk, filter};
-ghost use Rattle.differ.specs.OnCall.{conditions_on, is_for, on_argument, rules_for};
-ghost use Rattle.differ.specs.inner.Open.{is_met_at, met_at, open_on};
+ghost use Rattle.differ.specs.OnCall.{conditions_on, is_for, on_argument, rules_for, is_met_at, met_at};
+ghost use Rattle.differ.specs.inner.Open.{open_on};
 
 use crate::alike::meets;
 use profile::{Cond, Profile, Rule};
@@ -71,8 +71,8 @@ fn meets_all(rule: &Rule, index: usize, value: u64) -> bool
         .all(|cond| is_met(cond, index, value))
 }
 
-// The rules that stay open where an argument is this number.
-fn rules_with(
+/// Those of rules whose conditions on an argument a number meets.
+pub fn rules_with(
     alloc: Global,
     rules: &[Rule],
     index: usize,

@@ -38,6 +38,10 @@ pub record IsBuiltOfAdded (native : ℕ) (machines : List ℕ) (default_action :
   pub kept_are : map kept_rule kept ≡ map added_rule rules
   pub built : IsBuiltOf machine listed default_action kept policy
 
+-- each machine is one, and each rule is one of these machines: a profile is built of them
+abbrev pub AreBuilt : ℕ → List ℕ → ℕ → List AddedRule → Type 0
+AreBuilt native machines default_action rules = (policy : Policy) × IsBuiltOfAdded native machines default_action rules policy
+
 -- this profile is not plain: of a plain one there is a filter
 abbrev pub AreNotPlain : ℕ → List ℕ → ℕ → List AddedRule → Type 0
 AreNotPlain native machines default_action rules =

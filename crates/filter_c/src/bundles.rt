@@ -21,6 +21,7 @@ fn filter_for(alloc: Global, native: Arch, bundle: &[u8], out: &mut [u8], count:
     ensures made { result ≡ 0 → IsFilterOf native bundle.now (take count.new out.new) }
     ensures refused { result ≡ 1 → IsRefusalOf native bundle.now (take count.new out.new) }
     ensures room { result ≡ 2 → LacksRoom (IsExportOf native bundle.now) (length out.old) count.new }
+    ensures within { result ≤ 1 → count.new ≤ length out.old }
     ensures unwritten { 2 ≤ result → out.new ≡ out.old }
     ensures statuses { result ≤ 3 }
 {
@@ -47,6 +48,7 @@ fn found(
     ensures yes { result ≡ 0 → IsFinding native bundle.now filter.now cert.now Yes }
     ensures no { result ≡ 1 → IsNoOf native bundle.now filter.now cert.now (take count.new out.new) }
     ensures room { result ≡ 2 → LacksRoom (IsNoOf native bundle.now filter.now cert.now) (length out.old) count.new }
+    ensures within { result ≤ 1 → count.new ≤ length out.old }
     ensures none { result ≡ 0 → count.new ≡ 0 }
     ensures unwritten { result ≢ 1 → out.new ≡ out.old }
     ensures statuses { result ≤ 3 }
@@ -77,6 +79,7 @@ fn certified(
     ensures made { result ≡ 0 → IsFinding native bundle.now filter.now (take count.new out.new) Yes }
     ensures other { result ≡ 1 → IsNoCertificateOf native bundle.now filter.now (take count.new out.new) }
     ensures room { result ≡ 2 → LacksRoom (IsCertifiedAs native bundle.now filter.now) (length out.old) count.new }
+    ensures within { result ≤ 1 → count.new ≤ length out.old }
     ensures unwritten { 2 ≤ result → out.new ≡ out.old }
     ensures statuses { result ≤ 3 }
 {
@@ -104,6 +107,7 @@ pub extern "C" fn ccell_filter_for_bundle(
     ensures made { result ≡ 0 → OfMachine native (λ arch. IsFilterOf arch bundle.now (take count.new out.new)) }
     ensures refused { result ≡ 1 → OfMachine native (λ arch. IsRefusalOf arch bundle.now (take count.new out.new)) }
     ensures room { result ≡ 2 → OfMachine native (λ arch. LacksRoom (IsExportOf arch bundle.now) (length out.old) count.new) }
+    ensures within { result ≤ 1 → count.new ≤ length out.old }
     ensures machine { (result ≡ 4) ↔ (spec.machine_with native ≡ None) }
     ensures unwritten { 2 ≤ result → out.new ≡ out.old }
     ensures statuses { result ≤ 4 }
@@ -131,6 +135,7 @@ pub extern "C" fn ccell_check(
     ensures no { result ≡ 1 → OfMachine native (λ arch. IsNoOf arch bundle.now filter.now cert.now (take count.new out.new)) }
     ensures room { result ≡ 2
         → OfMachine native (λ arch. LacksRoom (IsNoOf arch bundle.now filter.now cert.now) (length out.old) count.new) }
+    ensures within { result ≤ 1 → count.new ≤ length out.old }
     ensures machine { (result ≡ 4) ↔ (spec.machine_with native ≡ None) }
     ensures none { result ≡ 0 → count.new ≡ 0 }
     ensures unwritten { result ≢ 1 → out.new ≡ out.old }
@@ -158,6 +163,7 @@ pub extern "C" fn ccell_certify(
     ensures other { result ≡ 1 → OfMachine native (λ arch. IsNoCertificateOf arch bundle.now filter.now (take count.new out.new)) }
     ensures room { result ≡ 2
         → OfMachine native (λ arch. LacksRoom (IsCertifiedAs arch bundle.now filter.now) (length out.old) count.new) }
+    ensures within { result ≤ 1 → count.new ≤ length out.old }
     ensures machine { (result ≡ 4) ↔ (spec.machine_with native ≡ None) }
     ensures unwritten { 2 ≤ result → out.new ≡ out.old }
     ensures statuses { result ≤ 4 }

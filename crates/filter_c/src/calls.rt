@@ -17,6 +17,7 @@ pub extern "C" fn ccell_call_number(machine: u32, name: &[u8], number: &mut u32)
     ensures none { result ≡ 15 → HasNoNumber machine name.now }
     ensures machine { (result ≡ 4) ↔ (spec.machine_with machine ≡ None) }
     ensures text { result ≡ 16 → ¬ IsUtf8 name.now }
+    ensures unwritten { 2 ≤ result → number.new ≡ number.old }
     ensures statuses { (result ≡ 0) ⊎ ((result ≡ 4) ⊎ ((result ≡ 15) ⊎ (result ≡ 16))) }
 {
     let Some(arch) = machine_with(machine) else {
@@ -47,6 +48,7 @@ pub extern "C" fn ccell_call_name(
     ensures none { result ≡ 15 → HasNoName machine number }
     ensures machine { (result ≡ 4) ↔ (spec.machine_with machine ≡ None) }
     ensures room { result ≡ 2 → LacksRoom (HasName machine number) (length out.old) count.new }
+    ensures within { result ≡ 0 → count.new ≤ length out.old }
     ensures unwritten { 2 ≤ result → out.new ≡ out.old }
     ensures statuses { (result ≡ 0) ⊎ ((result ≡ 2) ⊎ ((result ≡ 4) ⊎ (result ≡ 15))) }
 {

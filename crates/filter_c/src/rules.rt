@@ -6,7 +6,7 @@ ghost use Rattle.filter_c.specs.Refusal.{IsCause};
 ghost use Rattle.filter_c.specs.declared.added.fault.AddedError.TheVariants as error;
 ghost use Rattle.filter_c.specs.Machine as spec;
 ghost use Rattle.filter_c.specs.Room.{LacksRoom};
-ghost use Rattle.filter_c.specs.Rules.{AnswersWhatWasAdded, AreNotPlain, IsRightProgram};
+ghost use Rattle.filter_c.specs.Rules.{AnswersWhatWasAdded, AreBuilt, AreNotPlain, IsRightProgram};
 
 use crate::added::{AddedError, AddedRule, profile_of};
 use crate::answers::written;
@@ -23,6 +23,7 @@ use std::alloc::Global;
 fn put_checked(checked: &Checked<'_>, out: &mut [u8], told: &mut Told) -> u32
     ensures made { result ≡ 0 → IsRightProgram (profile_of checked.now) (take told.new.count out.new) }
     ensures room { result ≡ 2 → LacksRoom (IsRightProgram (profile_of checked.now)) (length out.old) told.new.count }
+    ensures within { result ≡ 0 → told.new.count ≤ length out.old }
     ensures unwritten { 2 ≤ result → out.new ≡ out.old }
     ensures statuses { (result ≡ 0) ⊎ (result ≡ 2) }
 {
@@ -38,6 +39,7 @@ fn put_checked(checked: &Checked<'_>, out: &mut [u8], told: &mut Told) -> u32
 fn put_filter(alloc: Global, profile: Profile, out: &mut [u8], told: &mut Told) -> u32
     ensures made { result ≡ 0 → IsRightProgram profile (take told.new.count out.new) }
     ensures room { result ≡ 2 → LacksRoom (IsRightProgram profile) (length out.old) told.new.count }
+    ensures within { result ≡ 0 → told.new.count ≤ length out.old }
     ensures unwritten { 2 ≤ result → out.new ≡ out.old }
     ensures size { result ≡ 11 → IsPlain profile → ⊥ }
     ensures statuses { (result ≡ 0) ⊎ ((result ≡ 2) ⊎ ((result ≡ 3) ⊎ (result ≡ 11))) }
@@ -100,7 +102,9 @@ pub extern "C" fn ccell_filter_for_rules(
     told: &mut Told,
 ) -> u32
     ensures made { result ≡ 0 → AnswersWhatWasAdded machines.now default_action rules.now (take told.new.count out.new) }
+    ensures built { result ≡ 0 → AreBuilt native machines.now default_action rules.now }
     ensures room { result ≡ 2 → LacksRoom (AnswersWhatWasAdded machines.now default_action rules.now) (length out.old) told.new.count }
+    ensures within { result ≡ 0 → told.new.count ≤ length out.old }
     ensures native { (result ≡ 4) ↔ (spec.machine_with native ≡ None) }
     ensures machine { result ≡ 5 → IsCause native machines.now rules.now (error.NoMachine told.new.first) }
     ensures rule { result ≡ 6 → IsCause native machines.now rules.now (error.NoRule told.new.first) }

@@ -1,5 +1,5 @@
 //! The verdict of a filter on a call record.
-ghost use Rattle.std.specs.Prelude.{◌≡◌, ◌⊎◌};
+ghost use Rattle.std.specs.Prelude.{◌≡◌, ◌≤◌, ◌⊎◌};
 ghost use Rattle.maker.specs.Answer.{IsAnswer};
 ghost use Rattle.maker.specs.declared.verdict.Answer.TheVariants as answer;
 ghost use Rattle.bpf_insn.specs.declared.fault.ViewError.{ViewError};
@@ -16,6 +16,7 @@ pub extern "C" fn ccell_verdict(filter: &[u8], rec: &[u8], verdict: &mut u32) ->
     ensures length { result ≡ 12 → IsAnswer filter.now rec.now answer.NoRecord }
     ensures program { result ≡ 13 → (e : ViewError) × IsAnswer filter.now rec.now (answer.NoProgram e) }
     ensures kernel { result ≡ 14 → (e : Refused) × IsAnswer filter.now rec.now (answer.Refusal e) }
+    ensures unwritten { 2 ≤ result → verdict.new ≡ verdict.old }
     ensures statuses { (result ≡ 0) ⊎ ((result ≡ 12) ⊎ ((result ≡ 13) ⊎ (result ≡ 14))) }
 {
     match answer_to(filter, rec) {

@@ -12,8 +12,8 @@ use Rattle.profile.specs.Rule.{argument_of}
 use Rattle.profile.specs.Said.{meets, said}
 use Rattle.profile.proofs.SaidLaws.{each_record_is_said_one_verdict}
 use Rattle.differ.specs.Cells.{AreAlike}
-use Rattle.differ.specs.OnCall.{IsOfCall, bits_of, conditions_on, is_for, on_argument, rules_for}
-use Rattle.differ.specs.inner.Open.{AreOpen as AreBothOpen, HasFirst, is_met_at, is_open, met_before}
+use Rattle.differ.specs.OnCall.{IsOfCall, bits_of, conditions_on, is_for, on_argument, rules_for, is_met_at}
+use Rattle.differ.specs.inner.Open.{AreOpen as AreBothOpen, HasFirst, is_open, met_before}
 use Rattle.differ.proofs.AlikeLaws.{alike_refl}
 use Rattle.differ.proofs.OpenLaws.{all_left, all_right, open_advance, open_first, said_named, says_moves}
 use Rattle.differ.proofs.WalkLaws.{argument_below, has_itself}

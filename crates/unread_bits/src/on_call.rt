@@ -5,12 +5,12 @@ ghost use Rattle.differ.specs.declared.listed.Unlisted.TheVariants.{OutOfMemory}
 ghost use Rattle.unread_bits.specs.Crowded.{AreCrowded, IsUnsettled};
 ghost use Rattle.unread_bits.specs.Past.{IsPastOf, NoneGetsPast};
 
-use crate::opened::{Open, conditions_of, rules_for};
+use crate::opened::{Open, conditions_of};
 use crate::past::Past;
 use crate::read::bits_at;
 use crate::values::{MOST_VALUES, values};
 use crate::walk::{Budget, walk};
-use differ::{Call, Unlisted};
+use differ::{Call, Unlisted, rules_for};
 use profile::{Profile, Rule};
 use std::alloc::{AllocError, Global};
 

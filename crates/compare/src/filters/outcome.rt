@@ -5,8 +5,9 @@ ghost use Rattle.bpf_insn.specs.Bytes.{insns_of, view_fault};
 ghost use Rattle.kernel_check.specs.Accepted.{IsRefusal};
 ghost use Rattle.kernel_check.specs.Lent.{accepted_insns};
 ghost use Rattle.bpf_insn.specs.declared.instruction.Insn.{Insn as TheInsn};
+ghost use Rattle.compare.specs.Behind.{AreAccepted};
 ghost use Rattle.compare.specs.Differ.{AnswerUnlike};
-ghost use Rattle.compare.specs.FiltersTold.{IsOutcome, IsUnlike, IsWrong};
+ghost use Rattle.compare.specs.FiltersTold.{AreUnlikeFilters, IsOutcome, IsUnlike, IsWrong};
 
 use crate::change::Change;
 use crate::difference::Difference;
@@ -19,7 +20,7 @@ use std::alloc::{AllocError, Global};
 /// What is found of two filters.
 #[derive(Drop)]
 pub enum Outcome {
-    /// Their bytes are the same.
+    /// They are the same filter.
     Same,
     /// They answer unlike verdicts to calls.
     Differ(Vec<Change>),
@@ -60,7 +61,7 @@ fn of_accepted(
     new: &Accepted<'_>,
 ) -> Result<Outcome, AllocError>
     ensures { (one other : List ℕ) → accepted_insns old.now ≡ insns_of one → accepted_insns new.now ≡ insns_of other
-        → IfOk result (IsOutcome one other) }
+        → AreUnlikeFilters one other → IfOk result (IsOutcome one other) }
 {
     let all = find_differences(alloc, family, old, new)?;
     let changes = changes_of(alloc, &all)?;
@@ -73,7 +74,7 @@ fn of_accepted(
 // A filter that the kernel accepts, or else what is wrong with it.
 fn read(filter: &[u8], place: u32) -> Result<Accepted<'_>, Outcome>
     ensures { MatchResult result
-        (λ accepted. accepted_insns accepted ≡ insns_of filter.entry.now)
+        (λ accepted. (accepted_insns accepted ≡ insns_of filter.entry.now) × AreAccepted filter.entry.now)
         (λ outcome. IsWrong filter.entry.now place outcome) }
 {
     let program = match Program::view(filter) {
@@ -95,9 +96,6 @@ pub fn outcome_of(
 ) -> Result<Outcome, AllocError>
     ensures { IfOk result (IsOutcome old.now new.now) }
 {
-    if old == new {
-        return Ok(Outcome::Same);
-    }
     let first = match read(old, 1) {
         Ok(first) => first,
         Err(outcome) => return Ok(outcome),
@@ -106,5 +104,8 @@ pub fn outcome_of(
         Ok(second) => second,
         Err(outcome) => return Ok(outcome),
     };
+    if old == new {
+        return Ok(Outcome::Same);
+    }
     of_accepted(alloc, family, &first, &second)
 }

@@ -25,13 +25,6 @@ pub record AreOpen (p q : Policy) (token nr j : ℕ) (held : Open) (r : List ℕ
   pub first : held.first.items ≡ filter (is_open token nr j r) p.rules
   pub second : held.second.items ≡ filter (is_open token nr j r) q.rules
 
--- the condition is on another argument, or this number meets it
-abbrev pub met_at : ℕ → ℕ → Cond → Bool
-met_at j u c = not (c.index == j) || meets c u
-
-abbrev pub is_met_at : ℕ → ℕ → Rule → Bool
-is_met_at j u rule = list_all (met_at j u) rule.conds.items
-
 -- the first arguments of the record are these
 abbrev pub HasFirst : List ℕ → ℕ → List ℕ → Type 0
 HasFirst args j r = (i : ℕ) → i < j → argument_of r i ≡ slice_index args i

@@ -1,4 +1,4 @@
-use Rattle.std.proofs.Common.{◌≡◌, ℕ, List, inl, refl, subst, sym, ◌∙◌, true}
+use Rattle.std.proofs.Common.{◌≡◌, ℕ, List, inl, refl, subst, sym, ◌∙◌, false, true}
 use Rattle.cli.specs.Refusal.{is_refusal}
 use Rattle.cli.proofs.BesideLaws.{told_beside}
 use Rattle.cli.proofs.beside.compared_beside.Goals as goal
@@ -14,4 +14,5 @@ returns-then-is_refusal c = record {
 pub returns : goal.returns
 returns c =
     told_beside c.args.at_most c.args.native c.args.first.now c.args.second.now c.in_ok-told.told c.behind_sides.result c.in_ok-told.ensures
+    (subst (λ (b : List ℕ). is_refusal b ≡ false) c.deref.ensures.value (sym c.is_refusal.ensures ∙ c.if-is_refusal.false))
     c.behind_sides.ensures

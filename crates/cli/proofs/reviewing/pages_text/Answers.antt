@@ -17,7 +17,7 @@ returns-then-not-second c = record {
   is_first = c.in_ok-first.ensures;
   second = c.in_ok-second.second;
   is_second = c.in_ok-second.ensures;
-  page = inr (inl (c.if-not-second.true, refl));
+  page = inr (c.if-not-first.false, inl (c.if-not-second.true, refl));
 }
 
 pub returns : goal.returns
@@ -28,6 +28,6 @@ returns c =
       is_first = c.in_ok-first.ensures;
       second = c.in_ok-second.second;
       is_second = c.in_ok-second.ensures;
-      page = inr (inr h);
+      page = inr (c.if-not-first.false, inr (c.if-not-second.false, h));
     })
     c.page_of_both.ensures

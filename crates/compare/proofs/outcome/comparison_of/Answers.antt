@@ -1,6 +1,6 @@
 use Rattle.std.proofs.Common.{◌≡◌, List, [], length, refl, sym, ◌∙◌, ap, subst, arith, vec_len}
 use Rattle.std.specs.List.{list_any}
-use Rattle.std.proofs.lemmas.Bool.{eqb-true}
+use Rattle.std.proofs.lemmas.Bool.{eqb-false, eqb-true}
 use Rattle.std.proofs.lemmas.List.{nil_from_length}
 use Rattle.compare.specs.Complete.{AreListed}
 use Rattle.compare.specs.Order.{IsSides, is_less, is_more}
@@ -34,7 +34,11 @@ returns c = λ family listed.
     let is : c.sides_of-sides.result ≡ sides_of (list_any (λ e. is_more e.first) changes) (list_any (λ e. is_less e.first) changes) =
     c.sides_of-sides.ensures
     ∙ ap (λ (l : List Change). sides_of (list_any (λ e. is_more e.first) l) (list_any (λ e. is_less e.first) l)) c.deref.ensures.value in (
-      all,
-      subst (λ (s : Sides). IsSides p q changes s) (sym is)
-          (sides_are family p q changes _ _ c.are_clear.ensures.first c.are_clear.ensures.second all refl refl),
+      λ none.
+          eqb-false (vec_len c.args.changes) 0 (sym c.is_empty-2.ensures ∙ c.if-is_empty.false) (omega (arith, ap (λ l. length l) none)),
+      (
+        all,
+        subst (λ (s : Sides). IsSides p q changes s) (sym is)
+            (sides_are family p q changes _ _ c.are_clear.ensures.first c.are_clear.ensures.second all refl refl),
+      ),
     )

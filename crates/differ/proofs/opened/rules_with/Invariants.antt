@@ -1,5 +1,5 @@
+use Rattle.differ.specs.OnCall.{is_met_at}
 use Rattle.std.proofs.Common.{◌≡◌, filter, take}
-use Rattle.differ.specs.inner.Open.{is_met_at}
 use Rattle.differ.proofs.opened.rules_with.Given as goal
 
 abbrev pub invariant-loop-rule : goal.invariant-loop-rule

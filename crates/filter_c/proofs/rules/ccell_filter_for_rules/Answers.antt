@@ -14,3 +14,6 @@ returns-in-Ok-clause-room c = λ two.
 
 pub returns-in-Ok-clause-size : goal.returns-in-Ok-clause-size
 returns-in-Ok-clause-size c = λ eleven. (c.in-Ok.profile, c.in-Ok.ensures.built, c.put_filter.ensures.size eleven)
+
+pub returns-in-Ok-clause-built : goal.returns-in-Ok-clause-built
+returns-in-Ok-clause-built c = λ zero. (c.in-Ok.profile, c.in-Ok.ensures.built)

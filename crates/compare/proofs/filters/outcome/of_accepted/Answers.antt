@@ -10,7 +10,7 @@ use Rattle.compare.specs.FiltersTold.{IsUnlike}
 use Rattle.compare.proofs.filters.outcome.of_accepted.Goals as goal
 
 pub returns : goal.returns
-returns c = λ one other same_one same_other.
+returns c = λ one other same_one same_other unlike_bytes.
     let old : List Insn = accepted_insns c.args.old.now in
     let new : List Insn = accepted_insns c.args.new.now in
     let changes : List Change = c.in_ok-changes.changes.items in
@@ -21,3 +21,6 @@ returns c = λ one other same_one same_other.
       subst (λ (p : List Insn). All (IsUnlike p (insns_of other)) changes) same_one
           (subst (λ (q : List Insn). All (IsUnlike old q) changes) same_other told),
     )
+
+pub returns-then-are_none : goal.returns-then-are_none
+returns-then-are_none c = λ one other same_one same_other unlike_bytes. unlike_bytes
