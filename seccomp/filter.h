@@ -48,7 +48,7 @@ struct rule {
     unsigned count;
     struct ccell_condition conditions[ARGUMENTS]; /* in the order of arguments */
     uint32_t left_out; /* machines on which libseccomp leaves it out of socketcall or ipc: `judge_in_ways` */
-    uint32_t dropped; /* machines on which libseccomp may drop it: `machines_that_drop` */
+    uint32_t lost, settles; /* machines of `machines_that_lose` and of `machines_that_settle` */
     size_t before; /* the place of the last rule before it that has its slot, counted from 1 */
 };
 
@@ -119,8 +119,10 @@ enum winner winner_of(const struct rule *earlier, const struct rule *later);
 struct parts { struct rule *rules; size_t count, room; const struct rule *beside; };
 int list_parts(const struct filter *filter, const struct rule *rule, int machine, const struct rule *last, struct parts *parts);
 void free_parts(struct parts *parts);
-/* The machines on which libseccomp drops a rule that is added, though none before it holds for all that it is for. */
-uint32_t machines_that_drop(const struct filter *filter, const struct rule *rule);
+/* The machines on which libseccomp may lose a rule that is added, or another one by it. */
+uint32_t machines_that_lose(const struct filter *filter, const struct rule *rule);
+/* The machines on which one call meets a rule that is added and an unlike one before it. */
+uint32_t machines_that_settle(const struct filter *filter, const struct rule *rule);
 /* Whether the last rule, and those of which it leaves less, can be given to ccell: 0, or an error. */
 int judge_last(const struct filter *filter);
 /* Whether a rule that is there already can be added once more: libseccomp's order may be another one then. 0, or an error. */

@@ -129,7 +129,8 @@ static int append(struct filter *filter, struct rule *rule) {
     if (!is_new) return judge_again(filter, rule);
     if (is_new < 0) return is_new;
     if (filter->now.count == filter->room && grow(filter)) return -ENOMEM;
-    rule->dropped = machines_that_drop(filter, rule);
+    rule->lost = machines_that_lose(filter, rule);
+    rule->settles = machines_that_settle(filter, rule);
     filter->rules[filter->now.count] = *rule;
     enter(filter, filter->now.count++);
     filter->length = 0;
