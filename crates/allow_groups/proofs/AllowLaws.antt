@@ -15,9 +15,9 @@ use Rattle.std.proofs.lemmas.List.Folds.{list_any-append}
 use Rattle.call_record.proofs.StrictestLemmas.{is_stricter-rank, rank}
 use Rattle.call_record.specs.Verdict.{action, allow, is_stricter, kill_process}
 use Rattle.call_record.specs.Words.{IsRecord, word}
-use Rattle.call_tables.specs.declared.arch.Arch.{Arch}
-use Rattle.call_tables.specs.Arch.{token_of}
-use Rattle.call_tables.specs.Numbers.{has_call}
+use Rattle.machines.specs.declared.arch.Arch.{Arch}
+use Rattle.machines.specs.Arch.{token_of}
+use Rattle.machines.specs.Numbers.{has_call}
 use Rattle.profile.specs.Build.{IsBuiltOf, KeepsOnce}
 use Rattle.profile.specs.Build as build
 use Rattle.profile.specs.Policy.{IsProfile, Policy}

@@ -3,7 +3,7 @@ use Rattle.std.specs.Prelude.{ℕ, ◌≡◌, true, false, List, string_bytes}
 use Rattle.call_record.specs.Words.{IsRecord}
 use Rattle.call_record.specs.Verdict.{allow, is_stricter}
 use Rattle.call_groups.specs.Groups.{calls_of_all}
-use Rattle.call_tables.specs.declared.arch.Arch.{Arch}
+use Rattle.machines.specs.declared.arch.Arch.{Arch}
 use Rattle.profile.specs.Policy.{Policy}
 use Rattle.profile.specs.Said.{is_native, said}
 use Rattle.together.specs.Combined.{IsBundle}

@@ -2,8 +2,8 @@
 use Rattle.std.specs.Prelude.{ℕ, Bool, not, codes, List, [], ◌∷◌, ◌++◌, filter, is_some}
 use Rattle.std.specs.List.{flat_map, list_any}
 use Rattle.call_groups.specs.Groups.{calls_of}
-use Rattle.call_tables.specs.declared.arch.Arch.{Arch}
-use Rattle.call_tables.specs.Arch.{table_of}
+use Rattle.machines.specs.declared.arch.Arch.{Arch}
+use Rattle.call_tables.specs.Tables.{table_of}
 use Rattle.call_tables.specs.Table.{number_in}
 
 -- a machine has a call of that name, one of these has, or none

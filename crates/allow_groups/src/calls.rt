@@ -4,7 +4,8 @@ ghost use Rattle.allow_groups.specs.Calls as spec;
 ghost use Rattle.call_groups.specs.Groups.{now_of};
 ghost use Rattle.std.specs.Prelude.{map};
 
-use call_tables::Arch;
+use call_tables::call_number;
+use machines::Arch;
 use std::alloc::{AllocError, Global};
 
 /// A call of a machine, by its number.
@@ -18,7 +19,7 @@ pub struct MachineCall {
 fn put_on(list: &mut Vec<MachineCall>, arch: Arch, name: &str) -> Result<(), AllocError>
     ensures { IfOk result (λ _. list.new.items ≡ list.old.items ++ spec.call_on name.now arch) }
 {
-    match arch.number(name) {
+    match call_number(arch, name) {
         Some(nr) => {
             list.push(MachineCall { arch, nr })?;
             Ok(())

@@ -1,6 +1,6 @@
 //! Bundles to which the calls of groups are added.
 ghost use Rattle.std.specs.Prelude.{◌≡◌, ◌∷◌, [], IfOk, List, false, map, string_bytes, ℕ};
-ghost use Rattle.call_tables.specs.declared.arch.Arch.{Arch as TheArch};
+ghost use Rattle.machines.specs.declared.arch.Arch.{Arch as TheArch};
 ghost use Rattle.profile.specs.Policy.{Policy};
 ghost use Rattle.allow_groups.specs.Allowed as spec;
 ghost use Rattle.allow_groups.specs.Report.{report};
@@ -14,7 +14,7 @@ use crate::draft::drafted;
 use crate::lists::having;
 use crate::report::report;
 use call_groups::calls_of_all;
-use call_tables::Arch;
+use machines::Arch;
 use profile::Profile;
 use profile_json::{ProfileError, read_bundle};
 use std::alloc::{AllocError, Global};

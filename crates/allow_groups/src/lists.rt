@@ -4,14 +4,15 @@ ghost use Rattle.std.specs.List.{list_any};
 ghost use Rattle.allow_groups.specs.Report as spec;
 ghost use Rattle.call_groups.specs.Groups.{now_of};
 
-use call_tables::Arch;
+use call_tables::call_number;
+use machines::Arch;
 use std::alloc::{AllocError, Global};
 
 // Whether a machine has a call of that name.
 fn has_on(arch: Arch, name: &str) -> bool
     ensures { result ≡ spec.has_on name.now arch }
 {
-    arch.number(name).is_some()
+    call_number(arch, name).is_some()
 }
 
 /// Whether one of these machines has a call of that name.

@@ -6,7 +6,7 @@ ghost use Rattle.call_groups.specs.Groups.{now_of};
 
 use crate::lists::{having, lacking};
 use call_groups::calls_of;
-use call_tables::Arch;
+use machines::Arch;
 use std::alloc::{AllocError, Global};
 
 // Adds each name behind a space.

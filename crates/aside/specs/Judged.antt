@@ -2,8 +2,8 @@
 use Rattle.std.specs.Prelude.{ℕ, ◌≡◌, ◌≢◌, Bool, List, [], if◌then◌else◌, Result, Ok, Err}
 use Rattle.std.specs.List.{All}
 use Rattle.call_record.specs.Record.{words}
-use Rattle.call_tables.specs.declared.arch.Arch.{Arch}
-use Rattle.call_tables.specs.Arch.{family_of}
+use Rattle.machines.specs.declared.arch.Arch.{Arch}
+use Rattle.machines.specs.Arch.{family_of}
 use Rattle.bpf_insn.specs.Bytes.{insns_of}
 use Rattle.profile.specs.Policy.{Policy}
 use Rattle.certify.specs.declared.error.CertifyError.TheVariants as maker

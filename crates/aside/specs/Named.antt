@@ -1,11 +1,12 @@
 -- Which calls may be left aside.
 use Rattle.std.specs.Prelude.{ℕ, ◌≡◌, ◌⊎◌, IsTrue, is_some, true}
 use Rattle.std.specs.List.{Any}
-use Rattle.call_tables.specs.declared.arch.Arch.{Arch}
-use Rattle.call_tables.specs.declared.arch.Family.{Family}
-use Rattle.call_tables.specs.Arch.{machines_of, table_of, token_of}
-use Rattle.call_tables.specs.Machines.{x86_64_token}
-use Rattle.call_tables.specs.Numbers.{from_to}
+use Rattle.machines.specs.declared.arch.Arch.{Arch}
+use Rattle.machines.specs.declared.arch.Family.{Family}
+use Rattle.machines.specs.Arch.{machines_of, token_of}
+use Rattle.call_tables.specs.Tables.{table_of}
+use Rattle.machines.specs.Machines.{x86_64_token}
+use Rattle.machines.specs.Numbers.{from_to}
 use Rattle.call_tables.specs.Table.{name_in}
 use Rattle.compare.specs.declared.behind_runc.stub.calls.Calls.{Calls}
 use Rattle.aside.specs.declared.leave.Leave.{Leave}

@@ -9,9 +9,9 @@ ghost use Rattle.aside.specs.Judged.{IsJudged, stub_calls};
 ghost use Rattle.aside.specs.Told.{AreFoundBut};
 
 use crate::judged::{But, joined};
-use call_tables::Arch;
 use compare::{Behind, Calls, Judged, convictions_behind};
 use maker::{Conviction, Evidence};
+use profile_json::Document;
 use std::alloc::{AllocError, Global};
 
 // The calls that are not asked about: those that are left aside, and those of the stub, unless the whole filter is asked about.
@@ -27,14 +27,13 @@ fn passed_of(alloc: Global, behind: &Behind<'_>, but: &But) -> Result<Vec<Calls>
 // A record that convicts a filter, and further ones that are of none of these calls.
 fn of_found(
     alloc: Global,
-    native: Arch,
-    bundle: &[u8],
+    document: &Document,
     filter: &[u8],
     passed: Vec<Calls>,
     found: &Conviction,
 ) -> Result<Vec<Conviction>, AllocError>
-    requires { Convicts native bundle.now filter.now found.now }
-    ensures { IfOk result (λ all. AreFoundBehind native bundle.now filter.now passed.items false found.now all.items) }
+    requires { Convicts document.now.native document.now.bytes filter.now found.now }
+    ensures { IfOk result (λ all. AreFoundBehind document.now.native document.now.bytes filter.now passed.items false found.now all.items) }
 {
     let behind = Behind {
         answered: passed,
@@ -44,28 +43,27 @@ fn of_found(
         whole: false,
         evidence: Ok(Evidence::Convicting(*found)),
     };
-    convictions_behind(alloc, native, bundle, filter, &behind, &judged)
+    convictions_behind(alloc, document, filter, &behind, &judged)
 }
 
 // The same, if the evidence is a record.
 fn convictions_in(
     alloc: Global,
-    native: Arch,
-    bundle: &[u8],
+    document: &Document,
     filter: &[u8],
     behind: &Behind<'_>,
     but: &But,
     evidence: &Evidence,
 ) -> Result<Vec<Conviction>, AllocError>
-    requires { (found : TheConviction) → evidence.now ≡ Convicting found → Convicts native bundle.now filter.now found }
+    requires { (found : TheConviction) → evidence.now ≡ Convicting found → Convicts document.now.native document.now.bytes filter.now found }
     ensures { IfOk result (λ all. (all.items ≡ []) ⊎ ((found : TheConviction) × (evidence.now ≡ Convicting found)
-        × AreFoundBut native bundle.now filter.now (stub_calls but.now.judged.whole behind.now.answered.items) but.now.aside.items found
+        × AreFoundBut document.now.native document.now.bytes filter.now (stub_calls but.now.judged.whole behind.now.answered.items) but.now.aside.items found
         all.items)) }
 {
     match evidence {
         Evidence::Convicting(found) => {
             let passed = passed_of(alloc, behind, but)?;
-            of_found(alloc, native, bundle, filter, passed, found)
+            of_found(alloc, document, filter, passed, found)
         }
         Evidence::Certificate(_) => Ok(Vec::new(alloc)),
     }
@@ -75,20 +73,19 @@ fn convictions_in(
 /// None of the further ones is of a call that is left aside.
 pub fn convictions_but(
     alloc: Global,
-    native: Arch,
-    bundle: &[u8],
+    document: &Document,
     filter: &[u8],
     behind: &Behind<'_>,
     but: &But,
 ) -> Result<Vec<Conviction>, AllocError>
-    requires { (leave : TheLeave) × IsJudged native bundle.now filter.now behind.now.rest.now behind.now.answered.items leave
+    requires { (leave : TheLeave) × IsJudged document.now.native document.now.bytes filter.now behind.now.rest.now behind.now.answered.items leave
         but.now.aside.items but.now.judged.whole but.now.judged.evidence }
     ensures { IfOk result (λ all. (all.items ≡ []) ⊎ ((found : TheConviction) × (but.now.judged.evidence ≡ Ok (Convicting found))
-        × AreFoundBut native bundle.now filter.now (stub_calls but.now.judged.whole behind.now.answered.items) but.now.aside.items found
+        × AreFoundBut document.now.native document.now.bytes filter.now (stub_calls but.now.judged.whole behind.now.answered.items) but.now.aside.items found
         all.items)) }
 {
     match &but.judged.evidence {
-        Ok(evidence) => convictions_in(alloc, native, bundle, filter, behind, but, evidence),
+        Ok(evidence) => convictions_in(alloc, document, filter, behind, but, evidence),
         Err(_) => Ok(Vec::new(alloc)),
     }
 }

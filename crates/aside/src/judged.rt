@@ -1,7 +1,7 @@
 //! What is judged of a filter where calls may be left aside.
 ghost use Rattle.std.specs.Prelude.{◌≡◌, ◌++◌, [], ℕ, List, IfOk, IfSome, Ok};
 ghost use Rattle.bpf_insn.specs.Bytes.{insns_of};
-ghost use Rattle.call_tables.specs.declared.arch.Arch.{Arch as TheArch};
+ghost use Rattle.machines.specs.declared.arch.Arch.{Arch as TheArch};
 ghost use Rattle.maker.specs.Certified.{IsJudgement};
 ghost use Rattle.maker.specs.Finding.{IsBundle};
 ghost use Rattle.compare.specs.Behind.{IsBehind};
@@ -17,12 +17,12 @@ use crate::named::aside_for;
 use crate::undecided::{uncompiled, undecided};
 use bpf_insn::MAX_INSNS;
 use call_record::words_are_a_record;
-use call_tables::{Arch, Family};
 use certify::CertifyError;
 use compare::{Behind, Calls, Judged, is_answered, judge_behind, spares};
+use machines::Family;
 use maker::{Conviction, Evidence, Unready, judge_filter};
 use profile::Profile;
-use profile_json::read_bundle;
+use profile_json::Document;
 use rule_compile::compile;
 use std::alloc::{AllocError, Global};
 
@@ -140,18 +140,17 @@ fn judge_beside(
 // The same beside a bundle.
 fn judge_left(
     alloc: Global,
-    native: Arch,
-    bundle: &[u8],
+    document: &Document,
     filter: &[u8],
     behind: &Behind<'_>,
     aside: &[Calls],
 ) -> Result<Judged, AllocError>
     requires behind { IsBehind filter.now behind.now.rest.now behind.now.answered.items }
-    requires taken { AreTaken native bundle.now filter.now }
+    requires taken { AreTaken document.now.native document.now.bytes filter.now }
     ensures { IfOk result (λ judged.
-        IsJudgedBut native bundle.now filter.now (stub_calls judged.whole behind.now.answered.items) aside.now judged.evidence) }
+        IsJudgedBut document.now.native document.now.bytes filter.now (stub_calls judged.whole behind.now.answered.items) aside.now judged.evidence) }
 {
-    match read_bundle(alloc, bundle, native) {
+    match document.bundle() {
         Ok(read) => judge_beside(alloc, &read.profile, filter, behind, aside),
         Err(error) => Ok(Judged {
             whole: true,
@@ -183,50 +182,48 @@ fn next_of(family: Family, leave: Leave, judged: &Judged) -> Option<Calls>
 // Leaves further calls aside.
 fn leave_more(
     alloc: Global,
-    native: Arch,
-    bundle: &[u8],
+    document: &Document,
     filter: &[u8],
     behind: &Behind<'_>,
     aside: Vec<Calls>,
     calls: Calls,
 ) -> Result<But, AllocError>
     requires behind { IsBehind filter.now behind.now.rest.now behind.now.answered.items }
-    requires taken { AreTaken native bundle.now filter.now }
-    ensures { (leave : TheLeave) → AreLeftOut native bundle.now filter.now leave aside.items
-        → IsLeftOut native bundle.now filter.now leave calls
-        → IfOk result (λ but. IsJudged native bundle.now filter.now behind.now.rest.now behind.now.answered.items leave
+    requires taken { AreTaken document.now.native document.now.bytes filter.now }
+    ensures { (leave : TheLeave) → AreLeftOut document.now.native document.now.bytes filter.now leave aside.items
+        → IsLeftOut document.now.native document.now.bytes filter.now leave calls
+        → IfOk result (λ but. IsJudged document.now.native document.now.bytes filter.now behind.now.rest.now behind.now.answered.items leave
         but.aside.items but.judged.whole but.judged.evidence) }
 {
     let mut aside = aside;
     aside.push(calls)?;
-    let judged = judge_left(alloc, native, bundle, filter, behind, &aside)?;
+    let judged = judge_left(alloc, document, filter, behind, &aside)?;
     Ok(But { aside, judged })
 }
 
-/// What is judged of a filter behind a stub, beside a bundle that is read for a native machine, where calls may be left aside. It is judged
+/// What is judged of a filter behind a stub, beside a bundle, where calls may be left aside. It is judged
 /// for all calls first. While it is convicted by a record of calls that may be left aside, these are, and it is judged for the others.
 pub fn judge_but(
     alloc: Global,
-    native: Arch,
-    bundle: &[u8],
+    document: &Document,
     filter: &[u8],
     behind: &Behind<'_>,
     leave: Leave,
 ) -> Result<But, AllocError>
     requires { IsBehind filter.now behind.now.rest.now behind.now.answered.items }
-    ensures { IfOk result (λ but. IsJudged native bundle.now filter.now behind.now.rest.now behind.now.answered.items leave
+    ensures { IfOk result (λ but. IsJudged document.now.native document.now.bytes filter.now behind.now.rest.now behind.now.answered.items leave
         but.aside.items but.judged.whole but.judged.evidence) }
 {
     let mut but = But {
         aside: Vec::new(alloc),
-        judged: judge_behind(alloc, native, bundle, filter, behind),
+        judged: judge_behind(alloc, document, filter, behind),
     };
     for _ in 0..MOST {
-        let calls = match next_of(native.family(), leave, &but.judged) {
+        let calls = match next_of(document.native().family(), leave, &but.judged) {
             Some(calls) => calls,
             None => return Ok(but),
         };
-        but = leave_more(alloc, native, bundle, filter, behind, but.aside, calls)?;
+        but = leave_more(alloc, document, filter, behind, but.aside, calls)?;
     }
     Ok(but)
 }

@@ -6,8 +6,9 @@ ghost use Rattle.aside.specs.Named.{IsNamed, MayBeAside, Names, call_of, x32_cal
 
 use crate::leave::Leave;
 use call_record::Record;
-use call_tables::{Arch, Family, LEAST_X32_NUMBER, Numbers};
+use call_tables::call_name;
 use compare::Calls;
+use machines::{Arch, Family, LEAST_X32_NUMBER, Numbers};
 
 // The calls of x32.
 fn x32_calls() -> Calls
@@ -42,7 +43,7 @@ fn names(token: u32, number: u32, arch: Arch) -> bool
     if arch.token() != token {
         return false;
     }
-    arch.name(number).is_some()
+    call_name(arch, number).is_some()
 }
 
 // Whether a machine of the family does.

@@ -1,8 +1,8 @@
 //! What is written of a filter where calls are left aside.
 ghost use Rattle.std.specs.Prelude.{◌≡◌, ◌≢◌, ◌⊎◌, [], ℕ, List, IfOk, Ok, string_bytes};
 ghost use Rattle.call_record.specs.Record.{words};
-ghost use Rattle.call_tables.specs.declared.arch.Arch.{Arch as TheArch};
-ghost use Rattle.call_tables.specs.Arch.{family_of};
+ghost use Rattle.machines.specs.declared.arch.Arch.{Arch as TheArch};
+ghost use Rattle.machines.specs.Arch.{family_of};
 ghost use Rattle.maker.specs.declared.evidence.evidence.Conviction.{Conviction as TheConviction};
 ghost use Rattle.maker.specs.declared.evidence.evidence.Evidence.TheVariants.{Convicting};
 ghost use Rattle.maker.specs.Exported.{LacksMemory};
@@ -14,8 +14,8 @@ ghost use Rattle.aside.specs.Judged.{IsJudged, IsJudgedBut, stub_calls};
 ghost use Rattle.aside.specs.Told.{AreFoundBut, CertifiesBut, WritesBut, but_text};
 
 use crate::judged::But;
-use call_tables::{Arch, Family};
 use compare::{Calls, calls_text, write_behind, write_convictions};
+use machines::{Arch, Family};
 use maker::{Conviction, Evidence, refuse, write_judged};
 use std::alloc::{AllocError, Global};
 use texts::{Sink, WriteFault, write_all};

@@ -1,7 +1,7 @@
 //! The parts of a question.
 
 use call_record::{Record, Word};
-use call_tables::Arch;
+use machines::Arch;
 use processes::Response;
 
 /// What is left of a question.

@@ -1,8 +1,8 @@
 -- What a filter of a big-endian machine is where lower halves stand first, and the other way round.
 use Rattle.std.specs.Prelude.{◌≡◌, ◌↔◌, ℕ, ◌+◌, ◌-◌, ◌%◌, ◌==◌, ◌||◌, nat_le, nat_lt, not, Bool, if◌then◌else◌}
 use Rattle.std.specs.Prelude.{List, length, map, Option, Some}
-use Rattle.call_tables.specs.declared.arch.Arch.{Arch}
-use Rattle.call_tables.specs.Arch.{is_big_endian}
+use Rattle.machines.specs.declared.arch.Arch.{Arch}
+use Rattle.machines.specs.Arch.{is_big_endian}
 use Rattle.call_record.specs.Words.{FieldsFit, words_from}
 use Rattle.bpf_insn.specs.declared.code.Operation.{Operation}
 use Rattle.bpf_insn.specs.declared.code.Operation.TheVariants.{LoadWord}

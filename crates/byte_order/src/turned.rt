@@ -5,7 +5,7 @@ ghost use Rattle.byte_order.specs.Big as big;
 ghost use Rattle.byte_order.specs.Turned.{big_filter, little_filter, other_half, read_as, written_as};
 
 use crate::insns::{big_at, big_bytes_of, little_at, little_bytes_of, other_half};
-use call_tables::Arch;
+use machines::Arch;
 use std::alloc::{AllocError, Global};
 
 // Writes the instructions of a big-endian machine's file, of whole instructions, as the others have them.

@@ -8,6 +8,7 @@
 
 mod bits;
 mod effect;
+mod fate;
 mod laws;
 mod layout;
 mod little;
@@ -18,6 +19,7 @@ mod verdict;
 
 pub use bits::least_below;
 pub use effect::Ends;
+pub use fate::Fate;
 pub use laws::{refusal_stands, same_bytes, same_record, words_are_a_record};
 pub use layout::{Record, halves};
 pub use strictness::{stricter, strictest, strictest_in_turn};

@@ -1,7 +1,5 @@
 pub mod TableLaws
-pub mod ArchLaws
+pub mod InverseLaws
 pub mod HalvingLaws
-pub mod NumberLaws
 pub mod ColumnLaws
 pub mod OwnLaws
-pub mod ForeignLaws

@@ -2,14 +2,14 @@
 ghost use Rattle.std.specs.Prelude.{◌≡◌, ◌<◌, ◌++◌, option_copied, IsTrue};
 ghost use Rattle.call_tables.specs.Table.{number_in, name_in};
 ghost use Rattle.call_tables.specs.Rows.{rows, column_of};
-ghost use Rattle.call_tables.specs.Machines.{first_rows, second_rows, third_rows, fourth_rows, linux_rows};
+ghost use Rattle.call_tables.specs.Tables.{first_rows, second_rows, third_rows, fourth_rows, linux_rows};
 ghost use Rattle.call_tables.specs.inner.Order.{are_sorted};
 
 use crate::linux_calls::{FIRST_CALLS, SECOND_CALLS};
 use crate::linux_calls_later::{FOURTH_CALLS, THIRD_CALLS};
 use crate::rows::{MACHINES, name_of, number_of};
 
-#[tactic(auto, unfolding(crate::specs::Machines::first_rows))]
+#[tactic(auto, unfolding(crate::specs::Tables::first_rows))]
 fn first() -> &'static [(&'static str, [u32; MACHINES])]
     ensures rows { rows result.now ≡ first_rows }
     ensures sorted { IsTrue (are_sorted (rows result.now)) }
@@ -17,7 +17,7 @@ fn first() -> &'static [(&'static str, [u32; MACHINES])]
     FIRST_CALLS
 }
 
-#[tactic(auto, unfolding(crate::specs::Machines::second_rows))]
+#[tactic(auto, unfolding(crate::specs::Tables::second_rows))]
 fn second() -> &'static [(&'static str, [u32; MACHINES])]
     ensures rows { rows result.now ≡ second_rows }
     ensures sorted { IsTrue (are_sorted (rows result.now)) }
@@ -25,7 +25,7 @@ fn second() -> &'static [(&'static str, [u32; MACHINES])]
     SECOND_CALLS
 }
 
-#[tactic(auto, unfolding(crate::specs::Machines::third_rows))]
+#[tactic(auto, unfolding(crate::specs::Tables::third_rows))]
 fn third() -> &'static [(&'static str, [u32; MACHINES])]
     ensures rows { rows result.now ≡ third_rows }
     ensures sorted { IsTrue (are_sorted (rows result.now)) }
@@ -33,7 +33,7 @@ fn third() -> &'static [(&'static str, [u32; MACHINES])]
     THIRD_CALLS
 }
 
-#[tactic(auto, unfolding(crate::specs::Machines::fourth_rows))]
+#[tactic(auto, unfolding(crate::specs::Tables::fourth_rows))]
 fn fourth() -> &'static [(&'static str, [u32; MACHINES])]
     ensures rows { rows result.now ≡ fourth_rows }
     ensures sorted { IsTrue (are_sorted (rows result.now)) }

@@ -2,8 +2,8 @@
 use Rattle.std.proofs.Common.{◌≡◌, ℕ, Bool, true, false, List, [], ◌∷◌, ◌++◌, length, refl, sym, subst, ap, ◌∙◌, append_assoc}
 use Rattle.std.specs.Prelude.{find, Option, Result, Ok, Err, IfOk}
 use denote.Ref.{Bor}
-use Rattle.call_tables.specs.declared.arch.Arch.{Arch}
-use Rattle.call_tables.specs.Arch.{table_of}
+use Rattle.machines.specs.declared.arch.Arch.{Arch}
+use Rattle.call_tables.specs.Tables.{table_of}
 use Rattle.call_tables.specs.Table.{name_in}
 use Rattle.call_words.specs.Calls.{is_call}
 use Rattle.call_words.specs.Near.{Least}

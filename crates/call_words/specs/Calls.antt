@@ -1,9 +1,10 @@
 -- Words that name a call.
 use Rattle.std.specs.Prelude.{ℕ, ◌^◌, ◌&&◌, ◌||◌, nat_lt, Bool, false, is_some, List, Option, Some, None}
 use Rattle.texts.specs.Splits.{split_at}
-use Rattle.call_tables.specs.declared.arch.Arch.{Arch}
-use Rattle.call_tables.specs.declared.arch.Family.{Family}
-use Rattle.call_tables.specs.Arch.{family_of, machine_called, same_family, table_of}
+use Rattle.machines.specs.declared.arch.Arch.{Arch}
+use Rattle.machines.specs.declared.arch.Family.{Family}
+use Rattle.machines.specs.Arch.{family_of, machine_called, same_family}
+use Rattle.call_tables.specs.Tables.{table_of}
 use Rattle.call_tables.specs.Table.{number_in}
 use Rattle.call_words.specs.Numbers.{number_of}
 

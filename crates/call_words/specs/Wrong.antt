@@ -3,8 +3,9 @@ use Rattle.std.specs.Prelude.{ℕ, ◌≡◌, nat_lt, not, Bool, true, false, if
 use Rattle.std.specs.Prelude.{Option, Some, None, find, codes}
 use denote.Ref.{Bor}
 use Rattle.texts.specs.Lines.{line_feed}
-use Rattle.call_tables.specs.declared.arch.Arch.{Arch}
-use Rattle.call_tables.specs.Arch.{machine_name, table_of}
+use Rattle.machines.specs.declared.arch.Arch.{Arch}
+use Rattle.machines.specs.Arch.{machine_name}
+use Rattle.call_tables.specs.Tables.{table_of}
 use Rattle.call_tables.specs.Table.{name_in}
 use Rattle.call_words.specs.Calls.{is_call}
 use Rattle.call_words.specs.Constants.{argument_of}

@@ -1,11 +1,12 @@
 //! The names that are nearest to a word.
 ghost use Rattle.std.specs.Prelude.{◌≡◌, ◌+◌, ◌++◌, ℕ, List, IfOk, Option as TheOption, Some, string_bytes};
-ghost use Rattle.call_tables.specs.Arch.{table_of};
+ghost use Rattle.call_tables.specs.Tables.{table_of};
 ghost use Rattle.call_tables.specs.Table.{name_in};
 ghost use Rattle.call_words.specs.Near as spec;
 ghost use Rattle.call_words.specs.Wrong.{native_numbers};
 
-use call_tables::Arch;
+use call_tables::call_name;
+use machines::Arch;
 use std::alloc::{AllocError, Global};
 use std::fmt::Write;
 use strsim::levenshtein;
@@ -58,7 +59,7 @@ fn with_call(
     ensures { IfOk result (λ new. spec.IsLeast (name_in (table_of native)) number word.now least
         → spec.IsLeast (name_in (table_of native)) (number + 1) word.now new) }
 {
-    match native.name(number) {
+    match call_name(native, number) {
         Some(name) => with_name(alloc, word, least, name),
         None => Ok(least),
     }
@@ -113,7 +114,7 @@ fn put_call_if_near(
     ensures { IfOk result (λ _. string_bytes text.new ≡ string_bytes text.old
         ++ spec.near_name word.now edits (name_in (table_of native) number)) }
 {
-    match native.name(number) {
+    match call_name(native, number) {
         Some(name) => put_if_near(text, alloc, word, edits, name),
         None => Ok(()),
     }

@@ -1,11 +1,12 @@
 //! Numbers, and words that name a call.
 ghost use Rattle.std.specs.Prelude.{◌≡◌};
-ghost use Rattle.call_tables.specs.Arch.{machine_called};
+ghost use Rattle.machines.specs.Arch.{machine_called};
 ghost use Rattle.texts.specs.Splits.{split_at};
 ghost use Rattle.call_words.specs.Calls as spec;
 ghost use Rattle.call_words.specs.Numbers.{number_of};
 
-use call_tables::{Arch, Family};
+use call_tables::call_number;
+use machines::{Arch, Family};
 use texts::{decimal, hexadecimal, split};
 
 /// The number that a word is: decimal, or hexadecimal behind `0x`.
@@ -54,5 +55,5 @@ fn is_numbered(family: Family, word: &str) -> bool
 pub(crate) fn is_call(native: Arch, word: &str) -> bool
     ensures { result ≡ spec.is_call native word.now }
 {
-    native.number(word).is_some() || is_numbered(native.family(), word)
+    call_number(native, word).is_some() || is_numbered(native.family(), word)
 }

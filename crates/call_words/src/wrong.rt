@@ -1,13 +1,13 @@
 //! What is wrong with words that ask for no call.
 ghost use Rattle.std.specs.Prelude.{◌≡◌, ◌++◌, ℕ, List, IfOk, find, nat_lt, if◌then◌else◌, [], string_bytes};
-ghost use Rattle.call_tables.specs.Arch.{machine_name};
+ghost use Rattle.machines.specs.Arch.{machine_name};
 ghost use Rattle.call_words.specs.Constants.{argument_of};
 ghost use Rattle.call_words.specs.Wrong as spec;
 
 use crate::nearest::{least_edits, put_hint};
 use crate::numbers::{is_call, number};
 use crate::sums::sum;
-use call_tables::Arch;
+use machines::Arch;
 use std::alloc::{AllocError, Global};
 use std::fmt::Write;
 

@@ -1,6 +1,6 @@
 //! Files of the file system.
 use cli::{FileFault, Files};
-use std::alloc::Global;
+use std::alloc::{AllocError, Global};
 use std::io::Read;
 use std::{fs, io};
 use texts::{Failed, Source};
@@ -10,6 +10,10 @@ fn fault_of(error: io::Error) -> FileFault {
         io::ErrorKind::OutOfMemory => FileFault::OutOfMemory,
         _ => FileFault::CannotRead,
     }
+}
+
+fn out_of_memory(_error: AllocError) -> FileFault {
+    FileFault::OutOfMemory
 }
 
 // Reads to the end, and says how many bytes came.
@@ -73,9 +77,56 @@ impl Source for OpenFile {
     }
 }
 
-/// Reads files by their paths.
+/// A file that was read whole.
 #[derive(Drop)]
-pub struct Disk<'a>(pub &'a HostRuntime);
+struct Kept {
+    name: String,
+    bytes: Vec<u8>,
+}
+
+/// Reads files by their paths. A file that was read whole is kept, so that its name gives the same bytes again: a pipe has them once.
+#[derive(Drop)]
+pub struct Disk<'a> {
+    rt: &'a HostRuntime,
+    kept: Vec<Kept>,
+}
+
+// The largest file that is kept, in bytes.
+const MOST_KEPT: usize = 1 << 24;
+
+fn copy_of(alloc: Global, bytes: &[u8]) -> Result<Vec<u8>, AllocError> {
+    let mut copy = Vec::new(alloc);
+    copy.extend_from_slice(bytes)?;
+    Ok(copy)
+}
+
+// The file of a name with a copy of its bytes.
+fn kept_as(alloc: Global, name: &str, bytes: &[u8]) -> Result<Kept, AllocError> {
+    Ok(Kept {
+        name: String::from_str(alloc, name)?,
+        bytes: copy_of(alloc, bytes)?,
+    })
+}
+
+// Keeps the bytes of a file, unless they are too many.
+fn keep(alloc: Global, kept: &mut Vec<Kept>, name: &str, bytes: &[u8]) -> Result<(), AllocError> {
+    if bytes.len() > MOST_KEPT {
+        return Ok(());
+    }
+    let file = kept_as(alloc, name, bytes)?;
+    kept.push(file)?;
+    Ok(())
+}
+
+impl<'a> Disk<'a> {
+    /// Reads files of a process.
+    pub fn new(rt: &'a HostRuntime) -> Disk<'a> {
+        Disk {
+            rt,
+            kept: Vec::new(rt.alloc()),
+        }
+    }
+}
 
 impl Files for Disk<'_> {
     ghost use Rattle.std.specs.Prelude.{None};
@@ -86,7 +137,7 @@ impl Files for Disk<'_> {
     type Opened = OpenFile;
 
     fn open(&mut self, name: &str) -> Result<OpenFile, FileFault> {
-        let file = fs::open(self.0, name).map_err(fault_of)?;
+        let file = fs::open(self.rt, name).map_err(fault_of)?;
         Ok(OpenFile {
             file,
             failures: 0,
@@ -95,12 +146,17 @@ impl Files for Disk<'_> {
         })
     }
 
-    fn read(&mut self, _alloc: Global, name: &str) -> Result<Vec<u8>, FileFault> {
-        fs::read(self.0, name).map_err(fault_of)
+    fn read(&mut self, alloc: Global, name: &str) -> Result<Vec<u8>, FileFault> {
+        if let Some(file) = self.kept.iter().find(|file| file.name.as_str() == name) {
+            return copy_of(alloc, &file.bytes).map_err(out_of_memory);
+        }
+        let bytes = fs::read(self.rt, name).map_err(fault_of)?;
+        keep(alloc, &mut self.kept, name, &bytes).map_err(out_of_memory)?;
+        Ok(bytes)
     }
 
     fn read_up_to(&mut self, alloc: Global, name: &str, most: u32) -> Result<Vec<u8>, FileFault> {
-        let mut file = fs::open(self.0, name).map_err(fault_of)?;
+        let mut file = fs::open(self.rt, name).map_err(fault_of)?;
         read_up_to(alloc, &mut file, most).map_err(fault_of)
     }
 }

@@ -28,7 +28,7 @@ fn run(rt: &HostRuntime, arguments: &[&str]) -> Result<u8, Stop<'static>> {
     Ok(dispatch(
         rt.alloc(),
         arguments,
-        &mut Disk(rt),
+        &mut Disk::new(rt),
         &mut FromRead::new(input),
         &mut ToWrite::new(rt.stdout()),
         &mut ToWrite::new(rt.stderr()),

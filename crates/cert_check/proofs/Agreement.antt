@@ -9,12 +9,12 @@ use Rattle.cert_check.proofs.Elements.{contains_at, each_of}
 use Rattle.std.proofs.lemmas.Bool.{ltb-true, ltb-false, leb-true, leb-false, lt-ltb, le-ltb, le-leb, lt-leb}
 use Rattle.std.proofs.lemmas.Bool.Decides.{not_from_Decides}
 use Rattle.call_record.specs.Words.{IsRecord, word, argument}
-use Rattle.call_tables.specs.declared.arch.Arch.{Arch}
-use Rattle.call_tables.specs.Arch.{token_of}
-use Rattle.call_tables.specs.Width.{compared, is_narrow}
-use Rattle.call_tables.specs.Numbers.{HasCall, IsOwn, IsWithin, foreign_numbers}
-use Rattle.call_tables.proofs.NumberLaws.{none, own_not_other}
-use Rattle.call_tables.proofs.ForeignLaws.{foreign_is_other, native_or_foreign}
+use Rattle.machines.specs.declared.arch.Arch.{Arch}
+use Rattle.machines.specs.Arch.{token_of}
+use Rattle.machines.specs.Width.{compared, is_narrow}
+use Rattle.machines.specs.Numbers.{HasCall, IsOwn, IsWithin, foreign_numbers}
+use Rattle.machines.proofs.NumberLaws.{none, own_not_other}
+use Rattle.machines.proofs.ForeignLaws.{foreign_is_other, native_or_foreign}
 use Rattle.profile.specs.declared.conditions.Op.{Op}
 use Rattle.profile.specs.declared.conditions.Op.TheVariants.{Ne, Lt, Le, Eq, Ge, Gt, MaskedEq}
 use Rattle.profile.specs.declared.conditions.Cond.{Cond}

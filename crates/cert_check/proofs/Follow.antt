@@ -7,7 +7,7 @@ use Rattle.cert_check.proofs.Elements.{contains_at, each_of}
 use Rattle.std.proofs.lemmas.Bool.{cases_eq, cases_lt, eqb-true}
 use Rattle.std.proofs.lemmas.Option.{slice_get_within, same_Some, cond_some, none-some, unwrap_or-slice_get}
 use Rattle.call_record.specs.Words.{IsRecord, argument}
-use Rattle.call_tables.specs.Width.{compared}
+use Rattle.machines.specs.Width.{compared}
 use Rattle.bpf_insn.specs.declared.code.Operand.{Operand}
 use Rattle.bpf_insn.specs.declared.code.Test.{Test}
 use Rattle.bpf_insn.specs.declared.code.Operation.{Operation}

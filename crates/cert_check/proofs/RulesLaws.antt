@@ -2,7 +2,7 @@
 use Rattle.std.proofs.Common.{◌≡◌, ◌≢◌, ℕ, ◌<◌, ◌≤◌, Bool, true, false, List, length, refl, subst, inl, inr, ◌⊎◌, arith}
 use Rattle.std.specs.Prelude.{slice_get, slice_index_or, Some, IsTrue, ◌↔◌}
 use Rattle.std.proofs.lemmas.Option.{get_or_from_slice_get, slice_get_within}
-use Rattle.call_tables.specs.declared.arch.Arch.{Arch}
+use Rattle.machines.specs.declared.arch.Arch.{Arch}
 use Rattle.profile.specs.declared.rules.Rule.{Rule}
 use Rattle.profile.specs.Policy.{Policy}
 use Rattle.cert_state.specs.declared.literal.Lit.{Lit}

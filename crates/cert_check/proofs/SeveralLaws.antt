@@ -6,8 +6,8 @@ use Rattle.std.proofs.lemmas.Bool.{cases_lt, cases_eq}
 use Rattle.std.proofs.lemmas.List.Elements.{All-contains, All-nil}
 use Rattle.std.proofs.lemmas.Option.{same_Some, slice_get_within}
 use Rattle.call_record.specs.Words.{IsRecord, word}
-use Rattle.call_tables.specs.declared.arch.Arch.{Arch}
-use Rattle.call_tables.specs.Arch.{token_of}
+use Rattle.machines.specs.declared.arch.Arch.{Arch}
+use Rattle.machines.specs.Arch.{token_of}
 use Rattle.profile.specs.Condition.{Meets}
 use Rattle.profile.specs.Latest.{IsFor, IsLatest, StandsAt}
 use Rattle.profile.specs.Policy.{IsClear, Policy, Says}

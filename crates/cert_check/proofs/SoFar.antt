@@ -4,7 +4,7 @@ use Rattle.std.specs.Prelude.{slice_index_or, Some}
 use Rattle.std.proofs.lemmas.Bool.{cases_lt}
 use Rattle.std.proofs.lemmas.List.{get_or_default}
 use Rattle.std.proofs.lemmas.Option.{slice_get-get_or}
-use Rattle.call_tables.specs.declared.arch.Arch.{Arch}
+use Rattle.machines.specs.declared.arch.Arch.{Arch}
 use Rattle.profile.specs.declared.rules.Rule.{Rule}
 use Rattle.cert_state.specs.declared.literal.Lit.{Lit}
 use Rattle.cert_check.specs.Agree.{IsYesRule, IsNoRule, IsLeft}

@@ -7,12 +7,12 @@ use Rattle.std.proofs.lemmas.Bool.{cases_Bool, cases_eq}
 use Rattle.std.proofs.lemmas.Bool.Decides.{not_from_Decides}
 use Rattle.std.proofs.lemmas.List.Elements.{All-contains}
 use Rattle.call_record.specs.Words.{IsRecord, word}
-use Rattle.call_tables.specs.declared.arch.Arch.{Arch}
-use Rattle.call_tables.specs.declared.numbers.Numbers.{Numbers}
-use Rattle.call_tables.specs.Arch.{token_of, family_of, same_arch}
-use Rattle.call_tables.specs.Numbers.{HasCall, IsOwn, IsWithin, foreign_numbers, own_numbers}
-use Rattle.call_tables.proofs.ArchLaws.{Decides-same_arch}
-use Rattle.call_tables.proofs.ForeignLaws.{native_or_foreign, none_foreign}
+use Rattle.machines.specs.declared.arch.Arch.{Arch}
+use Rattle.machines.specs.declared.numbers.Numbers.{Numbers}
+use Rattle.machines.specs.Arch.{token_of, family_of, same_arch}
+use Rattle.machines.specs.Numbers.{HasCall, IsOwn, IsWithin, foreign_numbers, own_numbers}
+use Rattle.machines.proofs.ArchLaws.{Decides-same_arch}
+use Rattle.machines.proofs.ForeignLaws.{native_or_foreign, none_foreign}
 use Rattle.profile.specs.declared.rules.Rule.{Rule}
 use Rattle.profile.specs.Rule.{Matches}
 use Rattle.profile.specs.Policy.{Policy, InOrder, IsNative}

@@ -2,10 +2,10 @@
 -- known is of their halves. The low half of argument j is word 4 + 2 * j, the high half the word after it. Of a narrow
 -- argument the low half alone is compared, and the high one counts as 0, whatever is known of it.
 use Rattle.std.specs.Prelude.{◌≡◌, ◌≢◌, ℕ, ◌+◌, ◌*◌, ◌/◌, ◌%◌, ◌^◌, ◌⊎◌, Bool, true, false, List, [], All, Any, Contains, Some, slice_get}
-use Rattle.call_tables.specs.declared.arch.Arch.{Arch}
-use Rattle.call_tables.specs.declared.numbers.Numbers.{Numbers}
-use Rattle.call_tables.specs.Arch.{token_of}
-use Rattle.call_tables.specs.Numbers.{own_numbers, foreign_numbers}
+use Rattle.machines.specs.declared.arch.Arch.{Arch}
+use Rattle.machines.specs.declared.numbers.Numbers.{Numbers}
+use Rattle.machines.specs.Arch.{token_of}
+use Rattle.machines.specs.Numbers.{own_numbers, foreign_numbers}
 use Rattle.profile.specs.declared.conditions.Op.{Op}
 use Rattle.profile.specs.declared.conditions.Op.TheVariants.{Ne, Lt, Le, Eq, Ge, Gt, MaskedEq}
 use Rattle.profile.specs.declared.conditions.Cond.{Cond}

@@ -1,8 +1,8 @@
 -- Returns to which several calls come: of each number that is possible, a rule without conditions says the verdict.
 use Rattle.std.specs.Prelude.{◌≡◌, ◌≤◌, ℕ, ◌⊎◌, IsTrue, List, [], Any, Some, slice_get}
-use Rattle.call_tables.specs.declared.arch.Arch.{Arch}
-use Rattle.call_tables.specs.Arch.{token_of}
-use Rattle.call_tables.specs.Numbers.{foreign_numbers}
+use Rattle.machines.specs.declared.arch.Arch.{Arch}
+use Rattle.machines.specs.Arch.{token_of}
+use Rattle.machines.specs.Numbers.{foreign_numbers}
 use Rattle.profile.specs.declared.rules.Rule.{Rule}
 use Rattle.profile.specs.Latest.{IsFor}
 use Rattle.profile.specs.Policy.{Policy}

@@ -1,7 +1,7 @@
 //! Whether what is known of a record settles the verdict that a profile says of it.
 ghost use Rattle.std.specs.Prelude.{◌≡◌, ◌≢◌, ◌<◌, ◌↔◌, ◌⊎◌, false, true, IsTrue, All, Any, Contains, Some, length, slice_get};
-ghost use Rattle.call_tables.specs.Arch.{token_of};
-ghost use Rattle.call_tables.specs.declared.arch.Arch.{Arch as TheArch};
+ghost use Rattle.machines.specs.Arch.{token_of};
+ghost use Rattle.machines.specs.declared.arch.Arch.{Arch as TheArch};
 ghost use Rattle.profile.specs.declared.rules.Rule.{Rule as TheRule};
 ghost use Rattle.cert_state.specs.declared.literal.Lit.TheVariants.{Bits, NotBits};
 ghost use Rattle.cert_state.specs.Literals.{all_bits};
@@ -20,8 +20,8 @@ use crate::judging::Agreement;
 use crate::likely::Likely;
 use crate::numbers::{NUMBER, number_of, number_range};
 use call_record::Word;
-use call_tables::{Arch, Numbers};
 use cert_state::{Facts, Knowledge, Lit, State};
+use machines::{Arch, Numbers};
 use profile::{Profile, Rule, foreign_numbers};
 
 // The word of a record that holds the machine's token.

@@ -7,8 +7,8 @@ ghost use Rattle.cert_check.specs.inner.Alike.{FirstAgree, SayTheSame};
 use crate::agree::{is_among, is_other};
 use crate::answered::are_same;
 use crate::judging::Agreement;
-use call_tables::Arch;
 use cert_state::State;
+use machines::Arch;
 use profile::{Rule, foreign_numbers};
 
 /// Whether two rules have the same verdict and the same conditions, of arguments as wide.

@@ -10,8 +10,8 @@ use crate::judged::{Answered, Asked, Bearing};
 use crate::judging::Agreement;
 use crate::likely::Likely;
 use crate::numbers::ask_number;
-use call_tables::Arch;
 use cert_state::State;
+use machines::Arch;
 
 impl<S: State> Agreement<'_, S> {
     /// Whether a rule for a call is seen to say the verdict, of those without conditions: `call_agrees` asks each of the others once.

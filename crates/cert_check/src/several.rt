@@ -7,8 +7,8 @@ use crate::agree::is_of;
 use crate::judging::Agreement;
 use crate::numbers::NUMBER;
 use call_record::Word;
-use call_tables::Arch;
 use cert_state::{Knowledge, State};
+use machines::Arch;
 use profile::{Profile, Rule, foreign_numbers};
 
 // Whether a rule has no conditions, and says a verdict.

@@ -4,10 +4,10 @@ use Rattle.std.specs.Prelude.{Any, Contains, Some, slice_get}
 use Rattle.std.proofs.lemmas.Bool.{cases_lt}
 use Rattle.std.proofs.lemmas.List.Elements.{All-cons, All-contains}
 use Rattle.std.proofs.lemmas.Option.{get_or_from_slice_get, same_Some, slice_get-get_or, slice_get_within}
-use Rattle.call_tables.specs.declared.arch.Arch.{Arch}
-use Rattle.call_tables.specs.Arch.{token_of}
-use Rattle.call_tables.specs.Numbers.{foreign_numbers}
-use Rattle.call_tables.proofs.ArchLaws.{token_of-fits}
+use Rattle.machines.specs.declared.arch.Arch.{Arch}
+use Rattle.machines.specs.Arch.{token_of}
+use Rattle.machines.specs.Numbers.{foreign_numbers}
+use Rattle.machines.proofs.ArchLaws.{token_of-fits}
 use Rattle.bpf_insn.specs.declared.instruction.Insn.{Insn}
 use Rattle.profile.specs.Policy.{InOrder, Policy}
 use Rattle.cert_state.specs.declared.literal.Lit.{Lit}
@@ -255,7 +255,7 @@ module _ (policy : Policy) (known : List Lit) (word nodes : ℕ) (is : IsUnsettl
                 (λ (ten : h.halvings ≡ 10). inl ten)
                 (λ (more : AreForeign policy known h.arch ⊎ ((h.halvings < 10) × AreNear known (2 ^ h.halvings))). ⊎_elim
                 (λ (foreign : AreForeign policy known h.arch). inr (inl (λ u point.
-                subst (λ ns. Any (Rattle.call_tables.specs.Numbers.IsWithin u) ns) same (foreign u point))))
+                subst (λ ns. Any (Rattle.machines.specs.Numbers.IsWithin u) ns) same (foreign u point))))
                 (λ (near : (h.halvings < 10) × AreNear known (2 ^ h.halvings)). inr (inr near))
                 more)
                 h.enough;

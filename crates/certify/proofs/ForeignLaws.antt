@@ -3,14 +3,14 @@ use Rattle.std.proofs.Common.{◌≡◌, ℕ, zero, suc, ◌+◌, ◌^◌, ◌<�
 use Rattle.std.specs.List.{Any, Contains, list_any}
 use Rattle.std.proofs.lemmas.Bool.{cases_Bool}
 use Rattle.std.proofs.lemmas.List.Elements.{All-contains}
-use Rattle.call_tables.specs.declared.arch.Arch.{Arch}
-use Rattle.call_tables.specs.declared.arch.Arch.TheVariants.{X86_64, Aarch64, LinuxX86_64, LinuxX86, LinuxX32, LinuxAarch64, LinuxArm, LinuxRiscv64, LinuxPpc64le, LinuxLoongarch64, LinuxS390x, LinuxS390}
-use Rattle.call_tables.specs.declared.numbers.Numbers.{Numbers}
-use Rattle.call_tables.specs.Arch.{token_of, family_of, same_arch}
-use Rattle.call_tables.specs.Numbers.{from_to, other_numbers, own_numbers, foreign_numbers, shares_token, HasCall, IsWithin}
-use Rattle.call_tables.proofs.ArchLaws.{Decides-same_arch}
-use Rattle.call_tables.proofs.NumberLaws.{none}
-use Rattle.call_tables.proofs.ForeignLaws.{native_or_foreign, none_foreign}
+use Rattle.machines.specs.declared.arch.Arch.{Arch}
+use Rattle.machines.specs.declared.arch.Arch.TheVariants.{X86_64, Aarch64, LinuxX86_64, LinuxX86, LinuxX32, LinuxAarch64, LinuxArm, LinuxRiscv64, LinuxPpc64le, LinuxLoongarch64, LinuxS390x, LinuxS390}
+use Rattle.machines.specs.declared.numbers.Numbers.{Numbers}
+use Rattle.machines.specs.Arch.{token_of, family_of, same_arch}
+use Rattle.machines.specs.Numbers.{from_to, other_numbers, own_numbers, foreign_numbers, shares_token, HasCall, IsWithin}
+use Rattle.machines.proofs.ArchLaws.{Decides-same_arch}
+use Rattle.machines.proofs.NumberLaws.{none}
+use Rattle.machines.proofs.ForeignLaws.{native_or_foreign, none_foreign}
 use Rattle.profile.specs.Policy.{InOrder}
 use Rattle.profile.proofs.MachineLaws.{family_in}
 use Rattle.rule_compile.specs.Shape.{AreSmallNative}

@@ -5,9 +5,9 @@ use Rattle.std.specs.Prelude.{Contains, All, Any, bit_and, nat_le, not}
 use Rattle.std.proofs.lemmas.List.Elements.{All-cons, All-head, All-tail}
 use Rattle.std.proofs.lemmas.Bool.{cases_eq, cases_lt, eq-eqb, ne_eqb, le-leb, leb-true}
 use Rattle.std.proofs.Math.Nat.{pow-suc}
-use Rattle.call_tables.specs.declared.arch.Arch.{Arch}
-use Rattle.call_tables.specs.Arch.{token_of}
-use Rattle.call_tables.specs.Numbers.{foreign_numbers}
+use Rattle.machines.specs.declared.arch.Arch.{Arch}
+use Rattle.machines.specs.Arch.{token_of}
+use Rattle.machines.specs.Numbers.{foreign_numbers}
 use Rattle.profile.specs.Policy.{InOrder, Policy}
 use Rattle.rule_compile.specs.Shape.{AreSmallNative}
 use Rattle.cert_state.specs.declared.literal.Lit.{Lit}

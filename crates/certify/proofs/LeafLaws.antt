@@ -7,11 +7,11 @@ use Rattle.std.proofs.lemmas.List.{get_or-replicate, get_or_past}
 use Rattle.std.proofs.lemmas.List.Elements.{All-contains, All-nil}
 use Rattle.std.proofs.lemmas.Bool.{cases_eq, cases_lt}
 use Rattle.call_record.specs.Words.{IsRecord, word}
-use Rattle.call_tables.specs.declared.arch.Arch.{Arch}
-use Rattle.call_tables.specs.declared.numbers.Numbers.{Numbers}
-use Rattle.call_tables.specs.Arch.{token_of}
-use Rattle.call_tables.specs.Numbers.{foreign_numbers, from_to, own_numbers}
-use Rattle.call_tables.proofs.ArchLaws.{token_of-fits}
+use Rattle.machines.specs.declared.arch.Arch.{Arch}
+use Rattle.machines.specs.declared.numbers.Numbers.{Numbers}
+use Rattle.machines.specs.Arch.{token_of}
+use Rattle.machines.specs.Numbers.{foreign_numbers, from_to, own_numbers}
+use Rattle.machines.proofs.ArchLaws.{token_of-fits}
 use Rattle.profile.specs.declared.conditions.Cond.{Cond}
 use Rattle.profile.specs.declared.rules.Rule.{Rule}
 use Rattle.profile.specs.Condition.{Meets as MeetsCond}

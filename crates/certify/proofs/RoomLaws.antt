@@ -7,8 +7,8 @@ use Rattle.std.proofs.lemmas.Bool.{cases_eq, eq-eqb, ne_eqb, leb-true}
 use Rattle.std.proofs.lemmas.Option.{same_Some}
 use Rattle.std.proofs.lemmas.List.Filters.{length-filter_both}
 use Rattle.std.proofs.Math.Nat.{le-max_left, le-max_right}
-use Rattle.call_tables.specs.declared.arch.Arch.{Arch}
-use Rattle.call_tables.specs.Arch.{machines_of, same_arch}
+use Rattle.machines.specs.declared.arch.Arch.{Arch}
+use Rattle.machines.specs.Arch.{machines_of, same_arch}
 use Rattle.bpf_insn.specs.declared.code.Test.{Test}
 use Rattle.bpf_insn.specs.declared.code.Test.TheVariants.{Equal, AtLeast}
 use Rattle.bpf_insn.specs.declared.instruction.Insn.{Insn}

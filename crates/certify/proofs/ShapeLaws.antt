@@ -16,7 +16,7 @@ use Rattle.bpf_insn.specs.declared.instruction.Insn.{Insn}
 use Rattle.bpf_insn.specs.Code.{operation_of}
 use Rattle.bpf_insn.specs.Machine.{Registers, Ending, after_one, ending, follow, holds, loaded, perform_if, start, verdict_of, word_at}
 use Rattle.call_record.specs.Words.{IsRecord, word}
-use Rattle.call_tables.specs.Numbers.{HasCall}
+use Rattle.machines.specs.Numbers.{HasCall}
 use Rattle.profile.specs.declared.conditions.Cond.{Cond}
 use Rattle.profile.specs.declared.rules.Rule.{Rule}
 use Rattle.profile.specs.Condition.{Meets}

@@ -1,7 +1,7 @@
 //! Where what is known is cut between calls: at their machines' tokens, and then in halves of their numbers.
 ghost use Rattle.std.specs.Prelude.{◌≡◌, ◌≤◌, ◌<◌, ◌+◌, ◌-◌, ◌/◌, ◌↔◌, ℕ, All, Any, IsTrue, MatchOption};
-ghost use Rattle.call_tables.specs.declared.arch.Arch.{Arch as TheArch};
-ghost use Rattle.call_tables.specs.Arch.{token_of};
+ghost use Rattle.machines.specs.declared.arch.Arch.{Arch as TheArch};
+ghost use Rattle.machines.specs.Arch.{token_of};
 ghost use Rattle.cert_form.specs.Nodes.{literals};
 ghost use Rattle.certify.specs.inner.Apart.{AreTold, IsFirstOpen, IsHalved, IsLeftWhole, IsMachine, IsTold};
 ghost use Rattle.certify.specs.inner.Leaf.{BeginsWithin};
@@ -9,8 +9,8 @@ ghost use Rattle.certify.specs.inner.Plain.{IsUnsettled, PartsAtReturn};
 
 use crate::chain::Chain;
 use crate::cuts::{Cut, NUMBER, TOKEN};
-use call_tables::{Arch, Numbers};
 use cert_state::{Facts, Knowledge, Lit};
+use machines::{Arch, Numbers};
 use profile::{Profile, foreign_numbers};
 
 // The numbers of all tables are below this, but for those of x32 and the private ones of ARM.

@@ -8,8 +8,8 @@ ghost use Rattle.certify.specs.inner.Cuts.{AreHalves, AreHalves-prop, IsLit-prop
 
 use crate::calls::cut_of_calls;
 use crate::chain::Chain;
-use call_tables::Arch;
 use cert_state::{Facts, Knowledge, Lit, Room, is_bit, range};
+use machines::Arch;
 use profile::{Cond, Op, Profile, Rule, foreign_numbers};
 
 /// Two literals of a word, of which one holds of each record.

@@ -2,7 +2,7 @@
 use Rattle.std.proofs.Common.{◌≡◌, ◌⊎◌, ℕ, ◌-◌, ◌≤◌, Bool, List, [], ◌∷◌, ap, arith, drop, get_or, inl, inr, length, refl, subst, sym, take, ◌∙◌}
 use Rattle.std.proofs.lemmas.List.{take_all}
 use Rattle.std.specs.Prelude.{Option, Result, Ok, Err}
-use Rattle.call_tables.specs.declared.arch.Arch.{Arch}
+use Rattle.machines.specs.declared.arch.Arch.{Arch}
 use Rattle.compare.specs.Behind.{AreFoundBehind, CertifiesAllBehind, IsBehind, IsNoConviction, WritesAllBehind, WritesBehind}
 use Rattle.compare.specs.Convictions.{WritesLines}
 use Rattle.compare.specs.declared.behind_runc.stub.calls.Calls.{Calls}

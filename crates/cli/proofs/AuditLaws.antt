@@ -1,7 +1,7 @@
 -- What is told of a kernel's log on standard input.
 use Rattle.std.proofs.Common.{ℕ, inl, inr, List, [], ◌∷◌}
 use Rattle.std.specs.Prelude.{Bool, Option, Result, Ok, Err}
-use Rattle.call_tables.specs.declared.arch.Arch.{Arch}
+use Rattle.machines.specs.declared.arch.Arch.{Arch}
 use Rattle.explain.specs.Audit.{IsAudited}
 use Rattle.texts.specs.Failures.{Failures}
 use Rattle.wording.specs.declared.told.Told.{Told}

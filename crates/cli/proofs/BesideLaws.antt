@@ -2,7 +2,7 @@
 use Rattle.std.proofs.Common.{◌≡◌, ◌≤◌, ℕ, List, [], ◌∷◌, ◌++◌, ap, append_assoc, arith, codes, inr, length, refl, ◌∙◌}
 use Rattle.std.specs.Prelude.{Bool, false, IfOk, Result, Ok, Err}
 use Rattle.std.specs.declared.alloc.AllocError.{AllocError}
-use Rattle.call_tables.specs.declared.arch.Arch.{Arch}
+use Rattle.machines.specs.declared.arch.Arch.{Arch}
 use Rattle.compare.specs.Told.{IsCompared}
 use Rattle.wording.specs.declared.told.Told.{Told}
 use Rattle.cli.specs.Compared.{TellsCompared, TellsSides, side_rest}
@@ -22,6 +22,6 @@ some_rest (byte ∷ bytes) some = refl
 -- two bundles are compared, and what stands beside their profiles is told
 pub told_beside : (atmost : Bool) (native : Arch) (first second : List ℕ) (inner : Told) (result : Result Told AllocError)
     → IsCompared atmost native first second inner → is_refusal inner.bytes.items ≡ false
-    → IfOk result (TellsSides native first second inner) → IfOk result (TellsCompared atmost native first second)
+    → IfOk result (TellsSides atmost native first second inner) → IfOk result (TellsCompared atmost native first second)
 told_beside atmost native first second inner (Ok told) is none sides = record { inner = inner; is = is; text = inr (none, sides) }
 told_beside atmost native first second inner (Err e) is none sides = tt

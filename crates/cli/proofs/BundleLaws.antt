@@ -3,11 +3,12 @@ use Rattle.std.proofs.Common.{◌≡◌, ℕ, ◌+◌, ◌<◌, inl, List, [], �
 use Rattle.std.proofs.lemmas.List.{map-append, take_more}
 use denote.Ref.{Bor}
 use Rattle.std.specs.Prelude.{Option, Result, Ok, Err}
-use Rattle.call_tables.specs.declared.arch.Arch.{Arch}
+use Rattle.machines.specs.declared.arch.Arch.{Arch}
 use Rattle.wording.specs.declared.told.Told.{Told}
 use Rattle.cli.specs.declared.stops.Stop.{Stop}
 use Rattle.cli.specs.Dispatch.{FirstUnread, HaveBundles, HaveBytes, StopsAt}
-use Rattle.cli.specs.Files.{Folder, HasBundle}
+use Rattle.cli.specs.Files.{Folder, HasBundle, HasDocument}
+use Rattle.profile_json.specs.Document.{TextFor}
 use Rattle.cli.specs.Told.{AreTakenAs, OfBundle, OfBundles, of_one, of_two}
 use Rattle.cli.specs.inner.Telling.{IsToldOf, TellsText}
 use Rattle.cli.proofs.DispatchLaws.{now_of, told_both, unread_at}
@@ -19,6 +20,14 @@ pub told_bundle : (native : Arch) (folder : Option Folder) (name bundle : List �
 told_bundle native folder name bundle Is has (Ok told) h =
     (has.file ∷ [], (has.is, tt), record { bundle = bundle; taken = has.taken; is = h })
 told_bundle native folder name bundle Is has (Err stop) h = subst (λ s. FirstUnread folder (name ∷ []) s) (sym h) (inl tt)
+
+-- so is a bundle that was read for the machine
+pub told_document : (native : Arch) (folder : Option Folder) (name : List ℕ) (document : TextFor) (Is : Arch → List ℕ → Told → Type 0)
+    → HasDocument native folder name document → (told : Result Told Stop) → TellsText (Is document.native document.bytes) told
+    → IsToldOf folder (name ∷ []) (of_one (OfBundle native (Is native))) told
+told_document native folder name document Is has told h =
+    told_bundle native folder name document.bytes (Is native) has.has told
+    (subst (λ (n : Arch). TellsText (Is n document.bytes) told) has.machine h)
 
 -- so are the bundles of two, of which the second one is read last
 pub told_bundles : (native : Arch) (folder later : Option Folder) → later ≡ folder → (old new bundle : List ℕ)
@@ -37,6 +46,15 @@ told_bundles native folder later same old new bundle Is has told h =
           → IsToldOf later (new ∷ []) (of_one (OfBundles native Is has.file)) r
       of (Ok t) is = (is.0, is.1, of_first is.0 t is.2)
       of (Err stop) at = at
+
+-- so are bundles that were read for one machine
+pub told_documents : (native : Arch) (folder later : Option Folder) → later ≡ folder → (old new : List ℕ) (first : TextFor)
+    (Is : Arch → List ℕ → List ℕ → Told → Type 0) → HasDocument native folder old first → (told : Result Told Stop)
+    → IsToldOf later (new ∷ []) (of_one (OfBundle first.native (Is first.native first.bytes))) told
+    → IsToldOf folder (old ∷ new ∷ []) (of_two (OfBundles native (Is native))) told
+told_documents native folder later same old new first Is has told h =
+    told_bundles native folder later same old new first.bytes (Is native) has.has told
+    (subst (λ (n : Arch). IsToldOf later (new ∷ []) (of_one (OfBundle n (Is n first.bytes))) told) has.machine h)
 
 -- so is one beside another file, which is read last
 pub told_beside : (native : Arch) (folder later : Option Folder) → later ≡ folder → (old new bundle : List ℕ) (Is : List ℕ → Told → Type 0)

@@ -2,7 +2,7 @@
 use Rattle.std.proofs.Common.{◌≡◌, ◌≢◌, ◌⊎◌, ℕ, inl, inr, List, [], ◌∷◌, refl, subst, arith}
 use Rattle.std.specs.Prelude.{Bool, true, Option, Result, Err}
 use Rattle.std.proofs.lemmas.List.Elements.{All-head}
-use Rattle.call_tables.specs.declared.arch.Arch.{Arch}
+use Rattle.machines.specs.declared.arch.Arch.{Arch}
 use Rattle.texts.specs.Failures.{Failures}
 use Rattle.texts.specs.declared.streams.fault.WriteFault.{WriteFault}
 use Rattle.maker.specs.declared.evidence.evidence.Conviction.{Conviction}

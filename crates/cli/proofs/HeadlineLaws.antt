@@ -7,16 +7,15 @@ use Rattle.std.proofs.lemmas.Bool.Decides.{Decides-eqb}
 use Rattle.std.proofs.lemmas.Slice.Eq.{slice_eq-Decides}
 use Rattle.bpf_insn.specs.declared.instruction.Insn.{Insn}
 use Rattle.bpf_insn.specs.Bytes.{insns_of}
-use Rattle.call_tables.specs.declared.arch.Arch.{Arch}
+use Rattle.bpf_insn.specs.declared.fault.ViewError.TheVariants.{Empty}
+use Rattle.machines.specs.declared.arch.Arch.{Arch}
 use Rattle.kernel_check.specs.Accepted.{IsAccepted}
 use Rattle.kernel_check.specs.declared.fault.Cause.TheVariants.{Code}
 use Rattle.profile.specs.Policy.{Policy}
-use Rattle.profile.specs.Said.{said}
-use Rattle.profile.proofs.SaidLaws.{each_record_is_said_one_verdict}
 use Rattle.cert_check.specs.declared.checked.Checked.{Checked}
 use Rattle.cert_check.specs.Checked.{profile_of, program_of}
 use Rattle.cert_check.specs.declared.fault.CheckError.{CheckError}
-use Rattle.cert_check.specs.declared.fault.CheckError.TheVariants.{Kernel, Form, Root, Edge, Split, Entail, Return}
+use Rattle.cert_check.specs.declared.fault.CheckError.TheVariants.{View, Kernel, Form, Root, Edge, Split, Entail, Return}
 use Rattle.cert_check.specs.Certified.{IsCertificate, Kept}
 use Rattle.cert_check.specs.Right.{IsRight}
 use Rattle.cert_check.specs.Rules.{IsValid}
@@ -40,7 +39,7 @@ use Rattle.session.specs.Scripts.{HasReadAll}
 use Rattle.script.specs.Lines.{Parts}
 use Rattle.maker.specs.Exported.{IsCheckedOf}
 use Rattle.maker.specs.Finding.{IsBundle}
-use Rattle.cli.specs.Headline.{Headline, IsRightFor, NameGives}
+use Rattle.cli.specs.Headline.{Headline, IsRightFilter, IsRightFor, NameGives}
 use Rattle.cli.specs.Running.{InTurn, IsBundleOf, name_of}
 
 -- ---- a right filter
@@ -48,11 +47,7 @@ use Rattle.cli.specs.Running.{InTurn, IsBundleOf, name_of}
 right_for : (native : Arch) (bundle : List ℕ) (policy : Policy) (p : List Insn) → IsBundle native bundle policy → IsAccepted p
     → IsRight policy p
     → IsRightFor native bundle policy p
-right_for native bundle policy p means accepted right = record {
-  means = means;
-  accepted = accepted;
-  verdict = λ r is. (right r is (said policy r)).1 ((each_record_is_said_one_verdict policy r (said policy r) means.2.calls.clear is).1 refl);
-}
+right_for native bundle policy p means accepted right = record { means = means; accepted = accepted; verdict = right }
 
 -- the nodes of a certificate of which no rule is broken keep each rule
 valid_nodes : (policy : Policy) (filter cert : List ℕ) (ns : List PlainNode) → Spells cert ns
@@ -68,12 +63,15 @@ valid_nodes policy filter cert ns spells kept = record {
 }
 
 right_of_kept : (native : Arch) (bundle filter cert : List ℕ) (policy : Policy) → IsBundle native bundle policy
-    → ((e : CheckError) → Kept policy filter cert e) → IsRightFor native bundle policy (insns_of filter)
+    → ((e : CheckError) → Kept policy filter cert e) → IsRightFilter native bundle policy filter
 right_of_kept native bundle filter cert policy means kept =
     let accepted : IsAccepted (insns_of filter) = kept (Kernel (record { cause = Code; pc = 0 })) in
     let nodes : IsCertificate cert = kept (Form BadMagic) in
-    right_for native bundle policy (insns_of filter) means accepted
-    (valid_is_right policy (insns_of filter) nodes.0 means.2.calls.clear accepted (valid_nodes policy filter cert nodes.0 nodes.1 kept))
+    record {
+      whole = kept (View Empty);
+      right = right_for native bundle policy (insns_of filter) means accepted
+          (valid_is_right policy (insns_of filter) nodes.0 means.2.calls.clear accepted (valid_nodes policy filter cert nodes.0 nodes.1 kept));
+    }
 
 -- ---- the filter of a name
 
@@ -162,8 +160,13 @@ script_read bundles script left commands h = record {
 pub headline : Headline
 headline = record {
   kept = right_of_kept;
-  yes = λ native bundle filter cert found.
-      (found.0, right_for native bundle found.0 (insns_of filter) found.1 found.2.accepted found.2.right);
+  yes = λ native bundle filter cert found. (
+    found.0,
+    record {
+      whole = found.2.kept (View Empty);
+      right = right_for native bundle found.0 (insns_of filter) found.1 found.2.accepted found.2.right;
+    },
+  );
   machine = λ commands old new replies is. subst (λ (F : First). IsRun F commands old replies new) same_first is;
   refused = refused_is_not_carried_out;
   run = λ native texts script before after left h. (

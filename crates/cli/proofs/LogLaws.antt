@@ -4,7 +4,7 @@ use Rattle.std.proofs.lemmas.List.{get_or_default, length-map, length-take-le, m
 use Rattle.std.specs.List.{zip}
 use Rattle.std.specs.Io.KnownBytes.{Consumes, IsAtEnd}
 use Rattle.std.specs.Prelude.{Bool, true, false, Option, None, Some, Result, Ok, Err}
-use Rattle.call_tables.specs.declared.arch.Arch.{Arch}
+use Rattle.machines.specs.declared.arch.Arch.{Arch}
 use Rattle.wording.specs.declared.told.Told.{Told}
 use Rattle.texts.specs.Failures.{Failures}
 use Rattle.cli.specs.declared.adapting.Both.{Both}

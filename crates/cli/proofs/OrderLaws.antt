@@ -1,7 +1,7 @@
 -- What is read of a file that is long enough is as long in the machine's order of bytes.
 use Rattle.std.proofs.Common.{◌≡◌, ℕ, List, [], ◌∷◌, ap, length, refl, subst, sym, ◌∙◌, arith}
 use Rattle.std.specs.Prelude.{Option}
-use Rattle.call_tables.specs.declared.arch.Arch.{Arch}
+use Rattle.machines.specs.declared.arch.Arch.{Arch}
 use Rattle.byte_order.specs.Turned.{read_as}
 use Rattle.byte_order.proofs.ReadLaws.{length_read, split_read}
 use Rattle.cli.specs.Files.{Folder, HasEnough, HasEnoughFilter, IsEnough}

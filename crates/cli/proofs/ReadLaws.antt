@@ -2,7 +2,7 @@
 use Rattle.std.proofs.Common.{◌≡◌, ◌≢◌, ◌++◌, ℕ, Bool, true, false, List, refl, inl, inr, sym}
 use Rattle.std.proofs.lemmas.Bool.{both_ways, not-true}
 use Rattle.std.specs.Prelude.{IfOk, IfSome, Result, Ok, Err, codes, not}
-use Rattle.call_tables.specs.declared.arch.Arch.{Arch}
+use Rattle.machines.specs.declared.arch.Arch.{Arch}
 use Rattle.compare.specs.Hints.{IsUnhinted, SomeGetPast}
 use Rattle.profile_json.specs.Breaks.{Breaks}
 use Rattle.profile_json.specs.Fault.{fault_of, text_of}

@@ -1,7 +1,7 @@
 -- Lines on files that are no bundles.
 use Rattle.std.proofs.Common.{◌≡◌, ℕ, inl, List, [], ◌∷◌, refl, subst}
 use Rattle.std.specs.Prelude.{Option}
-use Rattle.call_tables.specs.declared.arch.Arch.{Arch}
+use Rattle.machines.specs.declared.arch.Arch.{Arch}
 use Rattle.command_line.specs.Lines.{Given, given, texts}
 use Rattle.command_line.specs.declared.reading.CommandLine.{CommandLine}
 use Rattle.texts.specs.Failures.{Failures}

@@ -5,7 +5,7 @@ use Rattle.std.proofs.lemmas.List.Filters.{length-filter_both}
 use Rattle.std.specs.Prelude.{Bool, false, true, IfOk, None, Some, Option, Result, Err, Ok, filter, not}
 use Rattle.std.specs.declared.alloc.AllocError.{AllocError}
 use denote.Ref.{Bor}
-use Rattle.call_tables.specs.declared.arch.Arch.{Arch}
+use Rattle.machines.specs.declared.arch.Arch.{Arch}
 use Rattle.engines.specs.declared.settling.choice.Choice.{Choice}
 use Rattle.cli.specs.Adapted.{AsksNarrow, IsMadeBy, IsMadeOfDraft, IsNarrowedOne, KeepsText, is_narrow}
 use Rattle.section.specs.Sections.{KeepsMeaning}

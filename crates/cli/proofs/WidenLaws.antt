@@ -1,7 +1,7 @@
 -- A profile and what was learned of logs, together.
 use Rattle.std.proofs.Common.{◌≡◌, ℕ, Bool, false, true, List, [], ◌∷◌, refl, subst}
 use Rattle.std.specs.Prelude.{Option, not}
-use Rattle.call_tables.specs.declared.arch.Arch.{Arch}
+use Rattle.machines.specs.declared.arch.Arch.{Arch}
 use Rattle.section.specs.Texts.{IsBundleText}
 use Rattle.strace_logs.specs.Learned.{IsLearned}
 use Rattle.strace_logs.specs.declared.lists.Otherwise.{Otherwise}

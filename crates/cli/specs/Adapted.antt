@@ -8,7 +8,7 @@ use Rattle.section.specs.Texts.{IsBundleText}
 use Rattle.engines.specs.Adapted.{IsMade}
 use Rattle.engines.specs.Words.{AskFor}
 use Rattle.engines.specs.declared.words.Wanted.{Wanted}
-use Rattle.call_tables.specs.declared.arch.Arch.{Arch}
+use Rattle.machines.specs.declared.arch.Arch.{Arch}
 use Rattle.wording.specs.declared.told.Told.{Told}
 use Rattle.widths.specs.Narrow.{IsTold}
 use Rattle.engines.specs.declared.settling.choice.Choice.{Choice}

@@ -1,6 +1,6 @@
 -- What `join` and `meet` tell of bundles, and `stack` of filters.
 use Rattle.std.specs.Prelude.{ℕ, ◌≡◌, true, List}
-use Rattle.call_tables.specs.declared.arch.Arch.{Arch}
+use Rattle.machines.specs.declared.arch.Arch.{Arch}
 use Rattle.together.specs.Combined.{IsCombined}
 use Rattle.together.specs.declared.way.Way.{Way}
 use Rattle.combine.specs.Stack.{IsOfStack}

@@ -2,8 +2,8 @@
 use Rattle.std.specs.Prelude.{ℕ, ◌≡◌, ◌⊎◌, ◌-◌, ⊤, Bool, List, [], ◌∷◌, length, Option, Result, Ok, Err}
 use Rattle.call_record.specs.declared.layout.Record.{Record}
 use Rattle.call_record.specs.Record.{words}
-use Rattle.call_tables.specs.declared.arch.Arch.{Arch}
-use Rattle.call_tables.specs.Arch.{family_of}
+use Rattle.machines.specs.declared.arch.Arch.{Arch}
+use Rattle.machines.specs.Arch.{family_of}
 use Rattle.compare.specs.Behind.{AreFoundBehind, IsBehind, WritesBehind}
 use Rattle.compare.specs.Convictions.{WritesLines}
 use Rattle.compare.specs.StubTold.{stub_text}

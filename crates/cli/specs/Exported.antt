@@ -1,6 +1,6 @@
 -- What `export` tells of a bundle, as a machine has it.
 use Rattle.std.specs.Prelude.{ℕ, ◌≡◌, Bool, true, List, [], Ok}
-use Rattle.call_tables.specs.declared.arch.Arch.{Arch}
+use Rattle.machines.specs.declared.arch.Arch.{Arch}
 use Rattle.byte_order.specs.Turned.{written_as}
 use Rattle.export.specs.declared.form.Form.{Form}
 use Rattle.export.specs.declared.form.Form.TheVariants.{Raw}

@@ -1,7 +1,8 @@
 -- Files by their names, and what is read of them.
 use Rattle.std.specs.Prelude.{ℕ, ◌≡◌, ◌≤◌, ◌%◌, List, [], ◌++◌, length, Option, Some, None}
-use Rattle.call_tables.specs.declared.arch.Arch.{Arch}
+use Rattle.machines.specs.declared.arch.Arch.{Arch}
 use Rattle.byte_order.specs.Turned.{read_as}
+use Rattle.profile_json.specs.Document.{TextFor}
 use Rattle.section.specs.Texts.{IsBundleText}
 use Rattle.cli.specs.declared.fault.FileFault.{FileFault}
 use Rattle.cli.specs.declared.fault.FileFault.TheVariants.{CannotRead, OutOfMemory}
@@ -20,6 +21,11 @@ pub record HasBundle (native : Arch) (folder : Option Folder) (name bundle : Lis
   pub file : List ℕ
   pub is : HasBytes folder name file
   pub taken : IsBundleText native file bundle
+
+-- so of a bundle that was read for the machine
+pub record HasDocument (native : Arch) (folder : Option Folder) (name : List ℕ) (document : TextFor) : Type 0 where
+  pub machine : document.native ≡ native
+  pub has : HasBundle native folder name document.bytes
 
 -- the file of that name has the bytes of this filter, in the machine's order of bytes
 pub record HasFilter (native : Arch) (folder : Option Folder) (name filter : List ℕ) : Type 0 where

@@ -1,6 +1,6 @@
 -- What `flatten` tells of filters.
 use Rattle.std.specs.Prelude.{ℕ, ◌≡◌, ◌⊎◌, map, true, false, List}
-use Rattle.call_tables.specs.declared.arch.Arch.{Arch}
+use Rattle.machines.specs.declared.arch.Arch.{Arch}
 use Rattle.byte_order.specs.Turned.{read_as, written_as}
 use Rattle.flatten.specs.Stack.{IsFlat}
 use Rattle.flatten.specs.Unflat.{Says}

@@ -3,7 +3,7 @@ use Rattle.std.specs.Prelude.{ℕ, ◌≡◌, ◌⊎◌, Bool, true, false, not,
 use Rattle.std.specs.List.{list_all}
 use Rattle.allow_groups.specs.Allowed.{HasGroups}
 use Rattle.call_groups.specs.Groups.{is_group, is_known}
-use Rattle.call_tables.specs.declared.arch.Arch.{Arch}
+use Rattle.machines.specs.declared.arch.Arch.{Arch}
 use Rattle.wording.specs.declared.told.Told.{Told}
 
 -- the words that name groups, and the others

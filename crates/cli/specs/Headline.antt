@@ -7,18 +7,16 @@
 -- and by `certify_bundle` where it writes a certificate; `IsRun`, by programs, by `Runtime::run`; `HasAnswered` by `run_bundles` where it
 -- answers true.
 use Rattle.std.specs.Prelude.{ℕ, ◌≡◌, ◌≢◌, ◌+◌, ◌<◌, ◌++◌, List, Option, Some, None, length, slice_get}
-use Rattle.call_record.specs.Words.{IsRecord}
-use Rattle.call_tables.specs.declared.arch.Arch.{Arch}
+use Rattle.machines.specs.declared.arch.Arch.{Arch}
 use Rattle.bpf_insn.specs.declared.instruction.Insn.{Insn}
-use Rattle.bpf_insn.specs.Bytes.{insns_of}
-use Rattle.bpf_insn.specs.Machine.{verdict_of}
+use Rattle.bpf_insn.specs.Bytes.{insns_of, view_fault}
 use Rattle.kernel_check.specs.Accepted.{IsAccepted}
 use Rattle.profile.specs.Policy.{Policy}
-use Rattle.profile.specs.Said.{said}
 use Rattle.cert_check.specs.declared.checked.Checked.{Checked}
 use Rattle.cert_check.specs.declared.fault.CheckError.{CheckError}
 use Rattle.cert_check.specs.Certified.{Kept}
 use Rattle.cert_check.specs.Checked.{profile_of, program_of}
+use Rattle.cert_check.specs.Right.{IsRight}
 use Rattle.processes.specs.First.{by_profile, by_program}
 use Rattle.lifecycle.specs.declared.command.Reply.{Reply}
 use Rattle.lifecycle.specs.Commands.{Command}
@@ -33,12 +31,17 @@ use Rattle.maker.specs.Finding.{IsBundle, IsFinding}
 use Rattle.maker.specs.declared.check.Finding.TheVariants.{Yes}
 use Rattle.cli.specs.Running.{HasAnswered, name_of}
 
--- The bundle means the profile, the kernel accepts the filter, and its verdict on every call record is the one that the
--- profile says.
+-- The bundle means the profile, and the kernel accepts the filter. On every call record its verdict is the one that the profile says,
+-- and no other.
 pub record IsRightFor (native : Arch) (bundle : List ℕ) (policy : Policy) (p : List Insn) : Type 0 where
   pub means : IsBundle native bundle policy
   pub accepted : IsAccepted p
-  pub verdict : (r : List ℕ) → IsRecord r → verdict_of p r ≡ Some (said policy r)
+  pub verdict : IsRight policy p
+
+-- so of the bytes of a filter, which are whole instructions
+pub record IsRightFilter (native : Arch) (bundle : List ℕ) (policy : Policy) (filter : List ℕ) : Type 0 where
+  pub whole : view_fault filter ≡ None
+  pub right : IsRightFor native bundle policy (insns_of filter)
 
 -- the name is `b` and the number of a text, counted from 1, and the checked filter is right for this very text
 pub record IsFilterOf (native : Arch) (texts : List (List ℕ)) (name : List ℕ) (given : Checked) : Type 0 where
@@ -67,10 +70,10 @@ pub record IsAnswerTo (native : Arch) (texts : List (List ℕ)) (script answer :
 pub record Headline : Type 0 where
   -- Where a bundle means a profile and no rule that the checker looks for is broken, the filter is right for that profile.
   pub kept : (native : Arch) (bundle filter cert : List ℕ) (policy : Policy) → IsBundle native bundle policy
-      → ((e : CheckError) → Kept policy filter cert e) → IsRightFor native bundle policy (insns_of filter)
+      → ((e : CheckError) → Kept policy filter cert e) → IsRightFilter native bundle policy filter
   -- Where the checker says yes, the filter is right for the profile that the bundle means.
   pub yes : (native : Arch) (bundle filter cert : List ℕ) → IsFinding native bundle filter cert Yes
-      → (policy : Policy) × IsRightFor native bundle policy (insns_of filter)
+      → (policy : Policy) × IsRightFilter native bundle policy filter
   -- Whatever is commanded, with each profile in the place of its filter it is the same run.
   pub machine : (commands : List Command) (old new : World) (replies : List Reply) → IsRun by_program commands old replies new
       → IsRun by_profile commands old replies new

@@ -1,6 +1,6 @@
 -- What `review` tells with `html`: the page of one profile, or of two.
 use Rattle.std.specs.Prelude.{ℕ, ◌≡◌, ◌⊎◌, true, false, List}
-use Rattle.call_tables.specs.declared.arch.Arch.{Arch}
+use Rattle.machines.specs.declared.arch.Arch.{Arch}
 use Rattle.byte_order.specs.Turned.{read_as}
 use Rattle.export.specs.declared.form.Form.TheVariants.{Raw}
 use Rattle.page.specs.Page.{Side, page_of_one, page_of_two}

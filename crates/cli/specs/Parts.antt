@@ -1,9 +1,9 @@
 -- The arguments that stand for the parts of a command, by their places in its row.
 use Rattle.std.specs.Prelude.{ℕ, ◌≡◌, List, [], ◌∷◌, Option, Some, None, drop, get_or, if◌then◌else◌, option_map, unwrap_or, codes}
 use Rattle.std.specs.Str.{bytes_eq}
-use Rattle.call_tables.specs.declared.arch.Arch.{Arch}
-use Rattle.call_tables.specs.declared.arch.Arch.TheVariants.{LinuxX86_64}
-use Rattle.call_tables.specs.Arch.{native_called}
+use Rattle.machines.specs.declared.arch.Arch.{Arch}
+use Rattle.machines.specs.declared.arch.Arch.TheVariants.{LinuxX86_64}
+use Rattle.machines.specs.Arch.{native_called}
 use Rattle.command_line.specs.Lines.{texts}
 use Rattle.command_line.specs.Table.{Text}
 use Rattle.export.specs.declared.form.Form.{Form}

@@ -1,6 +1,6 @@
 -- What `read` and `lint` tell of a bundle.
 use Rattle.std.specs.Prelude.{ℕ, ◌≡◌, ◌⊎◌, true, List, ◌++◌, codes}
-use Rattle.call_tables.specs.declared.arch.Arch.{Arch}
+use Rattle.machines.specs.declared.arch.Arch.{Arch}
 use Rattle.constant_names.specs.Told.{AreNames}
 use Rattle.compare.specs.Hints.{IsUnhinted, SomeGetPast}
 use Rattle.compare.specs.Linted.{IsLinted}

@@ -2,7 +2,7 @@
 use Rattle.std.specs.Prelude.{ℕ, ◌≡◌, ◌||◌, Bool, true, false, List, [], ◌∷◌, codes}
 use Rattle.std.specs.Str.{bytes_eq}
 use Rattle.aside.specs.declared.leave.Leave.{Leave}
-use Rattle.call_tables.specs.declared.arch.Arch.{Arch}
+use Rattle.machines.specs.declared.arch.Arch.{Arch}
 use Rattle.recover.specs.Recovered.{IsRecovered}
 use Rattle.recover_but.specs.RecoveredBut.{IsToldBut}
 use Rattle.recover_others.specs.RecoveredOthers.{IsRecoveredOthers}

@@ -1,14 +1,13 @@
--- The lines on standard error behind a no or a refusal. They say what a file is that is read as a bundle, but is neither a bundle nor a
--- section.
+-- The lines on standard error behind a no or a refusal. They say what a file is that is read as a bundle, or at which place it is wrong.
 use Rattle.std.specs.Prelude.{ℕ, ◌≡◌, ◌⊎◌, List, [], ◌∷◌, Option, Some, None, Result, Ok, Err, true, false, Bool, codes, take}
 use Rattle.std.specs.Prelude.{if◌then◌else◌}
 use Rattle.std.specs.Str.{bytes_eq}
-use Rattle.call_tables.specs.declared.arch.Arch.{Arch}
+use Rattle.machines.specs.declared.arch.Arch.{Arch}
 use Rattle.command_line.specs.Lines.{Given}
 use Rattle.command_line.specs.declared.prose.Command.{Command}
 use Rattle.command_line.specs.declared.prose.Command.TheVariants.{Certify, Check, Compare, Explain, Export, Join, Learn}
 use Rattle.command_line.specs.declared.prose.Command.TheVariants.{Lint, Meet, Read, Replay, Review, Run, Tune}
-use Rattle.section.specs.Remarks.{IsRemark}
+use Rattle.show.specs.Remarked.{IsRemarkOn}
 use Rattle.texts.specs.Failures.{Failures}
 use Rattle.cli.specs.Parts.{Parts, parts_of}
 use Rattle.cli.specs.Stop.{Reports}
@@ -40,15 +39,15 @@ bundle_names Learn p = profile_in (from_in p.from_two) p
 bundle_names other p = []
 
 module _ {E : Type 0} (held : E → Option (List ℕ)) (failures : E → Failures) where
-  -- The line that says what a text is that is neither a bundle nor a section was written, as far as the sink took it. Or nothing was.
-  abbrev pub MayRemark : Arch → E → E → Type 0
-  MayRemark native old new =
-      (new ≡ old) ⊎ ((bytes : List ℕ) × (line : List ℕ) × IsRemark native bytes (Some line) × Reports held failures old new line)
+  -- What is told of the bytes of a file of that name was written, as far as the sink took it. Or nothing was.
+  abbrev pub MayRemark : Arch → List ℕ → E → E → Type 0
+  MayRemark native name old new =
+      (new ≡ old) ⊎ ((bytes : List ℕ) × (text : List ℕ) × IsRemarkOn native name bytes text × Reports held failures old new text)
 
   -- so of the file of each name, in order
   abbrev pub RemarksOn : Arch → List (List ℕ) → E → E → Type 0
   RemarksOn native [] old new = new ≡ old
-  RemarksOn native (name ∷ names) old new = (between : E) × MayRemark native old between × RemarksOn native names between new
+  RemarksOn native (name ∷ names) old new = (between : E) × MayRemark native name old between × RemarksOn native names between new
 
   -- so of the bundles of a command
   abbrev pub RemarksOf : Given → E → E → Type 0

@@ -1,7 +1,6 @@
 -- THE HEADLINE, as a user meets it: what the status 0 of `check` and of `run` says of the files that are named.
 use Rattle.std.specs.Prelude.{ℕ, ◌≡◌, ◌⊎◌, ◌++◌, List, Option, Some}
-use Rattle.call_tables.specs.declared.arch.Arch.{Arch}
-use Rattle.bpf_insn.specs.Bytes.{insns_of}
+use Rattle.machines.specs.declared.arch.Arch.{Arch}
 use Rattle.profile.specs.Policy.{Policy}
 use Rattle.compare.specs.Behind.{MeansRight}
 use Rattle.compare.specs.declared.behind_runc.stub.calls.Calls.{Calls}
@@ -9,7 +8,7 @@ use Rattle.aside.specs.declared.leave.Leave.{Leave}
 use Rattle.aside.specs.Judged.{AreLeftOut, MeansRightBut}
 use Rattle.cli.specs.Dispatch.{HaveBundles}
 use Rattle.cli.specs.Files.{Folder, HasBundle, HasFilter}
-use Rattle.cli.specs.Headline.{IsAnswerTo, IsRightFor}
+use Rattle.cli.specs.Headline.{IsAnswerTo, IsRightFilter}
 
 -- the bytes of one file are taken as a bundle, and those of the other are a filter that is right for it
 pub record AreRight (folder : Option Folder) (native : Arch) (bundle filter : List ℕ) : Type 0 where
@@ -18,7 +17,7 @@ pub record AreRight (folder : Option Folder) (native : Arch) (bundle filter : Li
   pub bundle_has : HasBundle native folder bundle b
   pub filter_has : HasFilter native folder filter f
   pub policy : Policy
-  pub right : IsRightFor native b policy (insns_of f)
+  pub right : IsRightFilter native b policy f
 
 -- The bytes of one file are taken as a bundle. Those of the other are a filter that is right for it, but for the calls that a stub in
 -- front of it answers. The bundle refuses these by its default, without a kill.

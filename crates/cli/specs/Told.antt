@@ -2,7 +2,7 @@
 use Rattle.std.specs.Prelude.{ℕ, ◌≡◌, ◌≢◌, Bool, true, false, List, [], ◌∷◌, ◌++◌, map, codes, Option, Some, None}
 use Rattle.std.specs.List.{zip}
 use denote.Ref.{Bor}
-use Rattle.call_tables.specs.declared.arch.Arch.{Arch}
+use Rattle.machines.specs.declared.arch.Arch.{Arch}
 use Rattle.section.specs.Texts.{IsBundleText}
 use Rattle.command_line.specs.Lines.{row_called}
 use Rattle.command_line.specs.Manual.{IsPage, list_of}

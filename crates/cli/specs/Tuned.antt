@@ -1,6 +1,6 @@
 -- What `tune` tells of a bundle.
 use Rattle.std.specs.Prelude.{ℕ, ◌≡◌, true, List}
-use Rattle.call_tables.specs.declared.arch.Arch.{Arch}
+use Rattle.machines.specs.declared.arch.Arch.{Arch}
 use Rattle.byte_order.specs.Turned.{written_as}
 use Rattle.tune.specs.Tuned.{IsRightFor}
 use Rattle.wording.specs.declared.told.Told.{Told}

@@ -1,7 +1,7 @@
 -- What `learn` makes of a profile and logs together.
 use Rattle.std.specs.Prelude.{ℕ, ◌≡◌, ◌||◌, Bool, true, false, List, [], ◌∷◌, Option, Some, None, codes, if◌then◌else◌}
 use Rattle.std.specs.Str.{bytes_eq}
-use Rattle.call_tables.specs.declared.arch.Arch.{Arch}
+use Rattle.machines.specs.declared.arch.Arch.{Arch}
 use Rattle.section.specs.Texts.{IsBundleText}
 use Rattle.strace_logs.specs.Learned.{IsLearned}
 use Rattle.strace_logs.specs.declared.lists.Otherwise.{Otherwise}

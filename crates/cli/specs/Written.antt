@@ -1,9 +1,9 @@
 -- In which form a bundle is written that was made.
 use Rattle.std.specs.Prelude.{ℕ, ◌≡◌, ◌⊎◌, Bool, true, false, List, [], ◌∷◌, ◌++◌, codes}
-use Rattle.call_tables.specs.declared.arch.Arch.{Arch}
-use Rattle.call_tables.specs.declared.arch.Family.{Family}
-use Rattle.call_tables.specs.declared.arch.Family.TheVariants.{Chosen, Whole}
-use Rattle.call_tables.specs.Arch.{family_of}
+use Rattle.machines.specs.declared.arch.Arch.{Arch}
+use Rattle.machines.specs.declared.arch.Family.{Family}
+use Rattle.machines.specs.declared.arch.Family.TheVariants.{Chosen, Whole}
+use Rattle.machines.specs.Arch.{family_of}
 use Rattle.wording.specs.declared.told.Told.{Told}
 use Rattle.section.specs.Sections.{IsSectionOf}
 

@@ -11,8 +11,9 @@ use crate::files::{Files, read};
 use crate::forms::{form_in, in_form};
 use crate::grouping::{part_words, with_groups};
 use crate::stops::Stop;
-use call_tables::Arch;
 use engines::{Adapted, Wanted, adapt, wanted_of};
+use machines::Arch;
+use profile_json::Document;
 use section::{bundle_text, keeps_meaning};
 use std::alloc::{AllocError, Global};
 use widths::{Narrowing, narrow};
@@ -68,10 +69,11 @@ fn narrowed(alloc: Global, native: Arch, made: Adapted) -> Result<Both, AllocErr
     if !told.done {
         return Ok(Both { told, changes });
     }
+    let document = Document::new(alloc, told.bytes, native);
     let Narrowing {
         told: narrower,
         changes: more,
-    } = narrow(alloc, native, &told.bytes)?;
+    } = narrow(alloc, &document)?;
     changes.push_str(&more)?;
     Ok(Both {
         told: narrower,
@@ -93,7 +95,8 @@ fn hinted(alloc: Global, native: Arch, made: Adapted) -> Result<Both, AllocError
         mut changes,
     } = made;
     if told.done {
-        let is_passed = compare::lint::hint(alloc, native, &told.bytes)?;
+        let bytes = Vec::from_slice(alloc, &told.bytes)?;
+        let is_passed = compare::lint::hint(alloc, &Document::new(alloc, bytes, native))?;
         if is_passed {
             changes.push_str(HINT)?;
         }

@@ -5,22 +5,19 @@ ghost use Rattle.maker.specs.Certified.{Certifies};
 ghost use Rattle.cli.specs.Dispatch.{AnswersAll};
 
 use crate::comparing::put_text;
-use crate::files::{Files, read_bundle, read_filter};
+use crate::files::{Files, read_document, read_filter};
 use crate::stops::Stop;
-use call_tables::Arch;
-use compare::{convictions_of, write_convictions};
-use explain::Explainer;
+use compare::{convictions_of, explain_found, write_convictions};
+use machines::Arch;
 use maker::{Conviction, Evidence, judge_bundle, write_judged};
+use profile_json::Document;
 use std::alloc::Global;
 use texts::{Sink, WriteFault};
 
-// Explains each record that was told, if there is memory. The bundle is read once.
-fn tell_each<E: Sink>(alloc: Global, native: Arch, bundle: &[u8], all: &[Conviction], err: &mut E) {
-    let Ok(explainer) = Explainer::new(alloc, native, bundle) else {
-        return;
-    };
+// Explains each record that was told, if there is memory.
+fn tell_each<E: Sink>(alloc: Global, document: &Document, all: &[Conviction], err: &mut E) {
     for found in all {
-        if let Ok(text) = explainer.explanation(alloc, &found.call) {
+        if let Some(text) = explain_found(alloc, document, found) {
             put_text(text, err);
         }
     }
@@ -29,19 +26,18 @@ fn tell_each<E: Sink>(alloc: Global, native: Arch, bundle: &[u8], all: &[Convict
 // Writes the lines of all records that are found to convict a filter, beside the first, and explains each.
 fn write_each<O: Sink, E: Sink>(
     alloc: Global,
-    native: Arch,
-    bundle: &[u8],
+    document: &Document,
     filter: &[u8],
     found: &Conviction,
     out: &mut O,
     err: &mut E,
 ) -> Result<bool, WriteFault>
-    requires { Convicts native bundle.now filter.now found.now }
-    ensures told { TellsAll O.held O.failures out.old out.new native bundle.now filter.now result }
+    requires { Convicts document.now.native document.now.bytes filter.now found.now }
+    ensures told { TellsAll O.held O.failures out.old out.new document.now.native document.now.bytes filter.now result }
     ensures stopped { OnErr result (err.new ≡ err.old) }
     ensures quiet { result ≡ Ok true → err.new ≡ err.old }
 {
-    let all = match convictions_of(alloc, native, bundle, filter, found) {
+    let all = match convictions_of(alloc, document, filter, found) {
         Ok(all) => all,
         Err(_no_memory) => return Err(WriteFault::OutOfMemory),
     };
@@ -49,7 +45,7 @@ fn write_each<O: Sink, E: Sink>(
         Err(fault) => Err(fault),
         Ok(true) => Ok(true),
         Ok(false) => {
-            tell_each(alloc, native, bundle, &all, err);
+            tell_each(alloc, document, &all, err);
             Ok(false)
         }
     }
@@ -58,20 +54,19 @@ fn write_each<O: Sink, E: Sink>(
 // Writes what is judged of a bundle and a filter, and of a filter that is convicted all records that are found.
 fn judge<O: Sink, E: Sink>(
     alloc: Global,
-    native: Arch,
-    bundle: &[u8],
+    document: &Document,
     filter: &[u8],
     out: &mut O,
     err: &mut E,
 ) -> Result<bool, WriteFault>
-    ensures written { Certifies O.held O.failures out.old out.new native bundle.now filter.now result
-        ⊎ TellsAll O.held O.failures out.old out.new native bundle.now filter.now result }
+    ensures written { Certifies O.held O.failures out.old out.new document.now.native document.now.bytes filter.now result
+        ⊎ TellsAll O.held O.failures out.old out.new document.now.native document.now.bytes filter.now result }
     ensures stopped { OnErr result (err.new ≡ err.old) }
     ensures quiet { result ≡ Ok true → err.new ≡ err.old }
 {
-    let judged = judge_bundle(alloc, native, bundle, filter);
+    let judged = judge_bundle(alloc, document, filter);
     if let Ok(Evidence::Convicting(found)) = &judged {
-        return write_each(alloc, native, bundle, filter, found, out, err);
+        return write_each(alloc, document, filter, found, out, err);
     }
     write_judged(alloc, &judged, out)
 }
@@ -90,7 +85,7 @@ pub(crate) fn certify_all<'a, F: Files, O: Sink, E: Sink>(
     ensures stopped { OnErr result (err.new ≡ err.old) }
     ensures quiet { result ≡ Ok true → err.new ≡ err.old }
 {
-    let bundle = read_bundle(alloc, native, files, bundle)?;
+    let document = read_document(alloc, native, files, bundle)?;
     let filter = read_filter(alloc, native, files, filter)?;
-    Ok(judge(alloc, native, &bundle, &filter, out, err)?)
+    Ok(judge(alloc, &document, &filter, out, err)?)
 }

@@ -1,67 +1,44 @@
 //! What `ccell certify .. runc all` does: it judges a filter behind runc's stub, and does not stop at the first call.
 ghost use Rattle.std.specs.Prelude.{◌≡◌, ◌⊎◌, ℕ, IfOk, List, Ok, OnErr};
-ghost use Rattle.call_tables.specs.declared.arch.Arch.{Arch as TheArch};
+ghost use Rattle.machines.specs.declared.arch.Arch.{Arch as TheArch};
 ghost use Rattle.compare.specs.Behind.{CertifiesAllBehind, IsBehind, IsJudgedBehind, IsNoConviction, WritesBehind};
 ghost use Rattle.compare.specs.Convictions.{WritesLines};
 ghost use Rattle.maker.specs.declared.evidence.evidence.Conviction.{Conviction as TheConviction};
 ghost use Rattle.maker.specs.declared.evidence.evidence.Evidence.TheVariants.{Convicting};
 ghost use Rattle.maker.specs.evidence.Conviction.{IsCertificate};
-ghost use Rattle.explain.specs.Explainer.{Reads};
 ghost use Rattle.compare.specs.declared.behind_runc.stub.calls.Calls.{Calls as TheCalls};
 ghost use Rattle.maker.specs.Exported.{LacksMemory};
 ghost use Rattle.cli.specs.Dispatch.{AnswersAllBehind, ExplainsAllBehind};
-ghost use Rattle.cli.specs.Explained.{MayTellEach, MayTellWhy, TellsAllBehind};
+ghost use Rattle.cli.specs.Explained.{MayTellEach, TellsAllBehind};
 
 use crate::behind::lines_of;
-use crate::comparing::put_text;
-use crate::files::{Files, read_bundle, read_filter};
+use crate::comparing::{put_text, tell_why};
+use crate::files::{Files, read_document, read_filter};
 use crate::stops::Stop;
-use call_tables::Arch;
 use compare::{
     Behind, Judged, behind_stub, convictions_behind, judge_behind, write_behind, write_convictions,
 };
-use explain::Explainer;
+use machines::Arch;
 use maker::{Conviction, Evidence};
+use profile_json::Document;
 use std::alloc::Global;
 use texts::{Sink, WriteFault};
 
-// Explains a record that convicts a filter, if there is memory.
-fn tell_why<E: Sink>(alloc: Global, explainer: &Explainer, found: &Conviction, err: &mut E)
-    ensures { (native : TheArch) (bundle : List ℕ) → Reads native bundle explainer.now
-        → MayTellWhy E.held E.failures err.old err.new native bundle found.now.call }
-{
-    if let Ok(text) = explainer.explanation(alloc, &found.call) {
-        put_text(text, err);
-    }
-}
-
-// Explains each record, in order.
-fn tell_each<E: Sink>(alloc: Global, explainer: &Explainer, all: &[Conviction], err: &mut E)
-    ensures { (native : TheArch) (bundle : List ℕ) → Reads native bundle explainer.now
-        → MayTellEach E.held E.failures native bundle all.now err.old err.new }
-{
-    match all {
-        [found, more @ ..] => {
-            tell_why(alloc, explainer, found, err);
-            tell_each(alloc, explainer, more, err);
-        }
-        [] => {}
-    }
-}
-
-/// The same, if there is memory to read the bundle once more.
+/// Explains each record, in order, if there is memory.
 pub(crate) fn explain_each<E: Sink>(
     alloc: Global,
-    native: Arch,
-    bundle: &[u8],
+    document: &Document,
     all: &[Conviction],
     err: &mut E,
 )
-    ensures { MayTellEach E.held E.failures native bundle.now all.now err.old err.new }
+    ensures { MayTellEach E.held E.failures document.now.native document.now.bytes all.now err.old err.new }
 {
-    match Explainer::new(alloc, native, bundle) {
-        Ok(explainer) => tell_each(alloc, &explainer, all, err),
-        Err(_) => {}
+    match all {
+        [found, more @ ..] => {
+            tell_why(alloc, document, found, err);
+            explain_each(alloc, document, more, err);
+        }
+        [] => {}
     }
 }
 
@@ -108,27 +85,25 @@ fn write_found<O: Sink>(
 // each record that was told. If there is no memory for these lines, nothing is written at all.
 fn judge<O: Sink, E: Sink>(
     alloc: Global,
-    native: Arch,
-    bundle: &[u8],
+    document: &Document,
     filter: &[u8],
     out: &mut O,
     err: &mut E,
 ) -> Result<bool, WriteFault>
-    ensures written { CertifiesAllBehind O.held O.failures out.old out.new native bundle.now filter.now result }
+    ensures written { CertifiesAllBehind O.held O.failures out.old out.new document.now.native document.now.bytes filter.now result }
     ensures stopped { OnErr result (err.new ≡ err.old) }
-    ensures told { IfOk result (λ done. TellsAllBehind O.held O.failures out.old out.new E.held E.failures err.old err.new native
-        bundle.now filter.now (Ok done)) }
+    ensures told { IfOk result (λ done. TellsAllBehind O.held O.failures out.old out.new E.held E.failures err.old err.new document.now.native document.now.bytes filter.now (Ok done)) }
 {
     let behind = match behind_stub(alloc, filter) {
         Ok(behind) => behind,
         Err(_no_memory) => return Err(WriteFault::OutOfMemory),
     };
-    let judged = judge_behind(alloc, native, bundle, filter, &behind);
-    let lines = match lines_of(alloc, native, filter, &behind, judged.whole) {
+    let judged = judge_behind(alloc, document, filter, &behind);
+    let lines = match lines_of(alloc, document.native(), filter, &behind, judged.whole) {
         Ok(lines) => lines,
         Err(_no_memory) => return Err(WriteFault::OutOfMemory),
     };
-    let all = match convictions_behind(alloc, native, bundle, filter, &behind, &judged) {
+    let all = match convictions_behind(alloc, document, filter, &behind, &judged) {
         Ok(all) => all,
         Err(_no_memory) => return Err(WriteFault::OutOfMemory),
     };
@@ -137,7 +112,7 @@ fn judge<O: Sink, E: Sink>(
         Err(fault) => return Err(fault),
     };
     put_text(lines, err);
-    explain_each(alloc, native, bundle, &all, err);
+    explain_each(alloc, document, &all, err);
     Ok(done)
 }
 
@@ -157,7 +132,7 @@ pub(crate) fn certify_all_behind<'a, F: Files, O: Sink, E: Sink>(
     ensures explained { ExplainsAllBehind O.held O.failures E.held E.failures (F.folder files.old) out.old out.new err.old err.new
         native bundle.entry.now filter.entry.now result }
 {
-    let bundle = read_bundle(alloc, native, files, bundle)?;
+    let document = read_document(alloc, native, files, bundle)?;
     let filter = read_filter(alloc, native, files, filter)?;
-    Ok(judge(alloc, native, &bundle, &filter, out, err)?)
+    Ok(judge(alloc, &document, &filter, out, err)?)
 }

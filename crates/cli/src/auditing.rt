@@ -5,8 +5,8 @@ ghost use Rattle.cli.specs.Input.{StopsInput};
 ghost use Rattle.cli.specs.inner.Telling.{TellsAudit};
 
 use crate::stops::Stop;
-use call_tables::Arch;
 use explain::audit;
+use profile_json::Document;
 use std::alloc::Global;
 use texts::Source;
 use wording::Told;
@@ -44,14 +44,14 @@ fn read_all<'a, I: Source>(alloc: Global, input: &mut I) -> Result<Vec<u8>, Stop
 /// Tells what a bundle says of the lines of a kernel's log, which a source has.
 pub(crate) fn audited<'a, I: Source>(
     alloc: Global,
-    native: Arch,
-    bundle: &[u8],
+    document: &Document,
     input: &mut I,
 ) -> Result<Told, Stop<'a>>
-    ensures { TellsAudit (I.left input.old) (I.left input.new) (I.failures input.old) (I.failures input.new) native bundle.now result }
+    ensures { TellsAudit (I.left input.old) (I.left input.new) (I.failures input.old) (I.failures input.new)
+        document.now.native document.now.bytes result }
 {
     match read_all(alloc, input) {
-        Ok(lines) => match audit(alloc, native, bundle, &lines) {
+        Ok(lines) => match audit(alloc, document, &lines) {
             Ok(told) => Ok(told),
             Err(_no_memory) => Err(Stop::OutOfMemory),
         },

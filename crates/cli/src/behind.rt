@@ -1,16 +1,17 @@
 //! What `ccell certify` does of a filter behind the stub that runc puts in front of it.
 ghost use Rattle.std.specs.Prelude.{◌-◌, ◌≡◌, IfOk, Ok, OnErr, length, string_bytes};
-ghost use Rattle.call_tables.specs.Arch.{family_of};
+ghost use Rattle.machines.specs.Arch.{family_of};
 ghost use Rattle.compare.specs.Behind.{CertifiesBehind};
 ghost use Rattle.compare.specs.StubTold as told;
 ghost use Rattle.cli.specs.Dispatch.{AnswersBehind, ExplainsBehind};
 ghost use Rattle.cli.specs.Explained.{TellsBehind};
 
 use crate::comparing::{put_text, tell_found};
-use crate::files::{Files, read_bundle, read_filter};
+use crate::files::{Files, read_document, read_filter};
 use crate::stops::Stop;
-use call_tables::Arch;
 use compare::{Behind, behind_stub, judge_behind, stub_text, write_behind};
+use machines::Arch;
+use profile_json::Document;
 use std::alloc::{AllocError, Global};
 use texts::{Sink, WriteFault};
 
@@ -33,23 +34,21 @@ pub(crate) fn lines_of(
 // the record that was told, if one was. If there is no memory for these lines, nothing is written at all.
 fn judge<O: Sink, E: Sink>(
     alloc: Global,
-    native: Arch,
-    bundle: &[u8],
+    document: &Document,
     filter: &[u8],
     out: &mut O,
     err: &mut E,
 ) -> Result<bool, WriteFault>
-    ensures written { CertifiesBehind O.held O.failures out.old out.new native bundle.now filter.now result }
+    ensures written { CertifiesBehind O.held O.failures out.old out.new document.now.native document.now.bytes filter.now result }
     ensures stopped { OnErr result (err.new ≡ err.old) }
-    ensures told { IfOk result (λ done. TellsBehind O.held O.failures out.old out.new E.held E.failures err.old err.new native
-        bundle.now filter.now (Ok done)) }
+    ensures told { IfOk result (λ done. TellsBehind O.held O.failures out.old out.new E.held E.failures err.old err.new document.now.native document.now.bytes filter.now (Ok done)) }
 {
     let behind = match behind_stub(alloc, filter) {
         Ok(behind) => behind,
         Err(_no_memory) => return Err(WriteFault::OutOfMemory),
     };
-    let judged = judge_behind(alloc, native, bundle, filter, &behind);
-    let lines = match lines_of(alloc, native, filter, &behind, judged.whole) {
+    let judged = judge_behind(alloc, document, filter, &behind);
+    let lines = match lines_of(alloc, document.native(), filter, &behind, judged.whole) {
         Ok(lines) => lines,
         Err(_no_memory) => return Err(WriteFault::OutOfMemory),
     };
@@ -58,7 +57,7 @@ fn judge<O: Sink, E: Sink>(
         Err(fault) => return Err(fault),
     };
     put_text(lines, err);
-    tell_found(alloc, native, bundle, &judged.evidence, err);
+    tell_found(alloc, document, &judged.evidence, err);
     Ok(done)
 }
 
@@ -78,7 +77,7 @@ pub(crate) fn certify_behind<'a, F: Files, O: Sink, E: Sink>(
     ensures explained { ExplainsBehind O.held O.failures E.held E.failures (F.folder files.old) out.old out.new err.old err.new
         native bundle.entry.now filter.entry.now result }
 {
-    let bundle = read_bundle(alloc, native, files, bundle)?;
+    let document = read_document(alloc, native, files, bundle)?;
     let filter = read_filter(alloc, native, files, filter)?;
-    Ok(judge(alloc, native, &bundle, &filter, out, err)?)
+    Ok(judge(alloc, &document, &filter, out, err)?)
 }

@@ -1,9 +1,9 @@
 //! What `ccell compare` tells of flags and listeners, which stand beside the profiles of bundles.
 ghost use Rattle.std.specs.Prelude.{◌≡◌, ◌++◌, IfOk};
-ghost use Rattle.cli.specs.Compared.{TellsCompared, TellsSides, side_head, side_rest, side_text, sides_text};
+ghost use Rattle.cli.specs.Compared.{TellsCompared, TellsSides, is_done as done_beside, side_head, side_rest, side_text, sides_text};
 
 use crate::telling::is_refusal;
-use call_tables::Arch;
+use profile_json::Document;
 use section::beside_of;
 use std::alloc::{AllocError, Global};
 use wording::Told;
@@ -52,39 +52,50 @@ fn sides_of(alloc: Global, old: &[u8], new: &[u8]) -> Result<Vec<u8>, AllocError
     Ok(text)
 }
 
+// Whether it is done: with `atmost` only if both have the same beside their profiles. Without flags some engines turn mitigations off.
+fn is_done(at_most: bool, old: &[u8], new: &[u8], done: bool) -> bool
+    ensures { result ≡ done_beside at_most old.now new.now done }
+{
+    if at_most {
+        return done && old == new;
+    }
+    done
+}
+
 // What was told of two bundles, behind what they have beside their profiles.
 fn behind_sides(
     alloc: Global,
-    native: Arch,
-    first: &[u8],
-    second: &[u8],
+    first: &Document,
+    second: &Document,
     told: Told,
+    at_most: bool,
 ) -> Result<Told, AllocError>
-    ensures { IfOk result (TellsSides native first.now second.now told) }
+    ensures { second.now.native ≡ first.now.native
+        → IfOk result (TellsSides at_most first.now.native first.now.bytes second.now.bytes told) }
 {
-    let old = beside_of(alloc, native, first)?;
-    let new = beside_of(alloc, native, second)?;
+    let old = beside_of(alloc, first.native(), first.bytes())?;
+    let new = beside_of(alloc, second.native(), second.bytes())?;
     let mut bytes = sides_of(alloc, &old, &new)?;
     bytes.extend_from_slice(&told.bytes)?;
     Ok(Told {
         bytes,
-        done: told.done,
+        done: is_done(at_most, &old, &new, told.done),
     })
 }
 
-/// Compares the profiles of two bundles, and tells of their flags and listeners if these are unlike.
+/// Compares the profiles of two bundles that were read for one machine, and tells of their flags and listeners if these are unlike.
 pub(crate) fn compared_beside(
     alloc: Global,
-    native: Arch,
-    first: &[u8],
-    second: &[u8],
+    first: &Document,
+    second: &Document,
     at_most: bool,
 ) -> Result<Told, AllocError>
-    ensures { IfOk result (TellsCompared at_most native first.now second.now) }
+    ensures { second.now.native ≡ first.now.native
+        → IfOk result (TellsCompared at_most first.now.native first.now.bytes second.now.bytes) }
 {
-    let told = compare::compare(alloc, native, first, second, at_most)?;
+    let told = compare::compare(alloc, first, second, at_most)?;
     if is_refusal(&told.bytes) {
         return Ok(told);
     }
-    behind_sides(alloc, native, first, second, told)
+    behind_sides(alloc, first, second, told, at_most)
 }

@@ -12,13 +12,14 @@ ghost use Rattle.cli.specs.Parts.{read};
 use crate::all_behind::explain_each;
 use crate::behind::lines_of;
 use crate::comparing::{put_text, tell_found};
-use crate::files::{Files, read_bundle, read_filter};
+use crate::files::{Files, read_document, read_filter};
 use crate::parts::{Parts, asks, leave_of};
 use crate::stops::Stop;
 use aside::{But, Leave, convictions_but, judge_but, write_found};
-use call_tables::Arch;
 use compare::{Behind, behind_stub};
+use machines::Arch;
 use maker::Conviction;
+use profile_json::Document;
 use std::alloc::{AllocError, Global};
 use texts::{Sink, WriteFault};
 
@@ -60,21 +61,20 @@ fn stub_lines(
 // All records that are found, if they are asked for.
 fn all_of(
     alloc: Global,
-    native: Arch,
-    bundle: &[u8],
+    document: &Document,
     filter: &[u8],
     behind: &Behind<'_>,
     but: &But,
     all: bool,
 ) -> Result<Vec<Conviction>, AllocError>
-    requires { (leave : TheLeave) × IsJudged native bundle.now filter.now behind.now.rest.now behind.now.answered.items leave
+    requires { (leave : TheLeave) × IsJudged document.now.native document.now.bytes filter.now behind.now.rest.now behind.now.answered.items leave
         but.now.aside.items but.now.judged.whole but.now.judged.evidence }
     ensures { IfOk result (λ all. (all.items ≡ []) ⊎ ((found : TheConviction) × (but.now.judged.evidence ≡ Ok (Convicting found))
-        × AreFoundBut native bundle.now filter.now (stub_calls but.now.judged.whole behind.now.answered.items) but.now.aside.items found
+        × AreFoundBut document.now.native document.now.bytes filter.now (stub_calls but.now.judged.whole behind.now.answered.items) but.now.aside.items found
         all.items)) }
 {
     if all {
-        return convictions_but(alloc, native, bundle, filter, behind, but);
+        return convictions_but(alloc, document, filter, behind, but);
     }
     Ok(Vec::new(alloc))
 }
@@ -89,8 +89,7 @@ fn is_quiet(runc: bool, done: bool) -> bool
 // Tells on standard error which calls the stub answers, if it was asked for, and explains each record that was told.
 fn tell<E: Sink>(
     alloc: Global,
-    native: Arch,
-    bundle: &[u8],
+    document: &Document,
     lines: String,
     but: &But,
     all: &[Conviction],
@@ -98,32 +97,32 @@ fn tell<E: Sink>(
 ) {
     put_text(lines, err);
     if all.is_empty() {
-        tell_found(alloc, native, bundle, &but.judged.evidence, err);
+        tell_found(alloc, document, &but.judged.evidence, err);
     } else {
-        explain_each(alloc, native, bundle, all, err);
+        explain_each(alloc, document, all, err);
     }
 }
 
 // Writes what is judged of a filter where calls may be left aside. If there is no memory for what is told of it, nothing is written at all.
 fn judge<O: Sink, E: Sink>(
     alloc: Global,
-    native: Arch,
-    bundle: &[u8],
+    document: &Document,
     filter: &[u8],
     leave: Leave,
     asked: Asked,
     out: &mut O,
     err: &mut E,
 ) -> Result<bool, WriteFault>
-    ensures written { CertifiesBut O.held O.failures out.old out.new native bundle.now filter.now leave result }
+    ensures written { CertifiesBut O.held O.failures out.old out.new document.now.native document.now.bytes filter.now leave result }
     ensures stopped { OnErr result (err.new ≡ err.old) }
     ensures quiet { result ≡ Ok true → (asked.runc ≡ true) ⊎ (err.new ≡ err.old) }
 {
+    let native = document.native();
     let behind = match behind_of(alloc, filter, asked.runc) {
         Ok(behind) => behind,
         Err(_no_memory) => return Err(WriteFault::OutOfMemory),
     };
-    let but = match judge_but(alloc, native, bundle, filter, &behind, leave) {
+    let but = match judge_but(alloc, document, filter, &behind, leave) {
         Ok(but) => but,
         Err(_no_memory) => return Err(WriteFault::OutOfMemory),
     };
@@ -131,7 +130,7 @@ fn judge<O: Sink, E: Sink>(
         Ok(lines) => lines,
         Err(_no_memory) => return Err(WriteFault::OutOfMemory),
     };
-    let all = match all_of(alloc, native, bundle, filter, &behind, &but, asked.all) {
+    let all = match all_of(alloc, document, filter, &behind, &but, asked.all) {
         Ok(all) => all,
         Err(_no_memory) => return Err(WriteFault::OutOfMemory),
     };
@@ -142,7 +141,7 @@ fn judge<O: Sink, E: Sink>(
     if is_quiet(asked.runc, done) {
         return Ok(done);
     }
-    tell(alloc, native, bundle, lines, &but, &all, err);
+    tell(alloc, document, lines, &but, &all, err);
     Ok(done)
 }
 
@@ -165,7 +164,7 @@ pub(crate) fn certify_but<'a, F: Files, O: Sink, E: Sink>(
     };
     let leave = leave_of(&parts);
     let native = parts.native;
-    let bundle = read_bundle(alloc, native, files, parts.two)?;
+    let document = read_document(alloc, native, files, parts.two)?;
     let filter = read_filter(alloc, parts.native, files, parts.three)?;
-    Ok(judge(alloc, native, &bundle, &filter, leave, asked, out, err)?)
+    Ok(judge(alloc, &document, &filter, leave, asked, out, err)?)
 }

@@ -9,10 +9,10 @@ use crate::all_behind::certify_all_behind;
 use crate::behind::certify_behind;
 use crate::but::certify_but;
 use crate::comparing;
-use crate::files::{Files, read_bundle, read_filter};
+use crate::files::{Files, read_document, read_filter};
 use crate::parts::{Parts, asks, asks_but};
 use crate::stops::Stop;
-use call_tables::Arch;
+use machines::Arch;
 use std::alloc::Global;
 use texts::Sink;
 
@@ -34,9 +34,9 @@ fn certify<'a, F: Files, O: Sink, E: Sink>(
     ensures explained { ExplainsRecord O.held O.failures E.held E.failures (F.folder files.old) out.old out.new err.old err.new
         native bundle.entry.now result }
 {
-    let bundle = read_bundle(alloc, native, files, bundle)?;
+    let document = read_document(alloc, native, files, bundle)?;
     let filter = read_filter(alloc, native, files, filter)?;
-    Ok(comparing::certify(alloc, native, &bundle, &filter, out, err)?)
+    Ok(comparing::certify(alloc, &document, &filter, out, err)?)
 }
 
 // The same where no calls may be left aside.

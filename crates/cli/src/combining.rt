@@ -1,6 +1,6 @@
 //! What `ccell join`, `meet` and `stack` do.
 ghost use Rattle.std.specs.Prelude.{◌≡◌, IfOk, List, false, map, string_bytes, ℕ};
-ghost use Rattle.call_tables.specs.declared.arch.Arch.{Arch as TheArch};
+ghost use Rattle.machines.specs.declared.arch.Arch.{Arch as TheArch};
 ghost use Rattle.together.specs.Combined.{IsCombined};
 ghost use Rattle.together.specs.declared.way.Way.{Way as TheWay};
 ghost use Rattle.combine.specs.Stack.{IsOfStack};
@@ -14,8 +14,8 @@ use crate::files::{Files, read_bundles, read_each};
 use crate::forms::{form_in, in_form};
 use crate::stops::Stop;
 use byte_order::each_read_as;
-use call_tables::Arch;
 use combine::{Uncombined, combine, combine_filters, line_of};
+use machines::Arch;
 use std::alloc::{AllocError, Global};
 use together::Way;
 use wording::Told;

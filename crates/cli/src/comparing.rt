@@ -6,9 +6,9 @@ ghost use Rattle.maker.specs.declared.evidence.evidence.Evidence.TheVariants.{Co
 ghost use Rattle.maker.specs.evidence.Conviction.{IsCertificate};
 ghost use Rattle.maker.specs.Certified.{Certifies};
 
-use call_tables::Arch;
 use compare::explain_found;
 use maker::{Conviction, Evidence, Unready, judge_bundle, write_judged};
+use profile_json::Document;
 use std::alloc::Global;
 use texts::{Sink, WriteFault, write_all};
 
@@ -19,30 +19,24 @@ pub(crate) fn put_text<E: Sink>(text: String, err: &mut E)
     let _ = write_all(text.as_bytes(), err);
 }
 
-// Explains a record that convicts a filter, if there is memory.
-fn tell_why<E: Sink>(alloc: Global, native: Arch, bundle: &[u8], found: &Conviction, err: &mut E)
-    ensures { MayTellWhy E.held E.failures err.old err.new native bundle.now found.now.call }
+/// Explains a record that convicts a filter, if there is memory.
+pub(crate) fn tell_why<E: Sink>(alloc: Global, document: &Document, found: &Conviction, err: &mut E)
+    ensures { MayTellWhy E.held E.failures err.old err.new document.now.native document.now.bytes found.now.call }
 {
-    match explain_found(alloc, native, bundle, found) {
+    match explain_found(alloc, document, found) {
         Some(text) => put_text(text, err),
         None => {}
     }
 }
 
 // Explains the record of the evidence, if it is one.
-fn tell_evidence<E: Sink>(
-    alloc: Global,
-    native: Arch,
-    bundle: &[u8],
-    evidence: &Evidence,
-    err: &mut E,
-)
+fn tell_evidence<E: Sink>(alloc: Global, document: &Document, evidence: &Evidence, err: &mut E)
     ensures why { (found : TheConviction) → evidence.now ≡ Convicting found
-        → MayTellWhy E.held E.failures err.old err.new native bundle.now found.call }
+        → MayTellWhy E.held E.failures err.old err.new document.now.native document.now.bytes found.call }
     ensures quiet { IsCertificate evidence.now → err.new ≡ err.old }
 {
     match evidence {
-        Evidence::Convicting(found) => tell_why(alloc, native, bundle, found, err),
+        Evidence::Convicting(found) => tell_why(alloc, document, found, err),
         Evidence::Certificate(_) => {}
     }
 }
@@ -50,17 +44,16 @@ fn tell_evidence<E: Sink>(
 /// Explains the record that was found, if one was.
 pub(crate) fn tell_found<E: Sink>(
     alloc: Global,
-    native: Arch,
-    bundle: &[u8],
+    document: &Document,
     judged: &Result<Evidence, Unready>,
     err: &mut E,
 )
     ensures why { (found : TheConviction) → judged.now ≡ Ok (Convicting found)
-        → MayTellWhy E.held E.failures err.old err.new native bundle.now found.call }
+        → MayTellWhy E.held E.failures err.old err.new document.now.native document.now.bytes found.call }
     ensures quiet { HasNoRecord judged.now → err.new ≡ err.old }
 {
     match judged {
-        Ok(evidence) => tell_evidence(alloc, native, bundle, evidence, err),
+        Ok(evidence) => tell_evidence(alloc, document, evidence, err),
         Err(_) => {}
     }
 }
@@ -68,24 +61,23 @@ pub(crate) fn tell_found<E: Sink>(
 /// Writes what is judged of a bundle and a filter, and explains on standard error the very record that was told, if one was.
 pub fn certify<O: Sink, E: Sink>(
     alloc: Global,
-    native: Arch,
-    bundle: &[u8],
+    document: &Document,
     filter: &[u8],
     out: &mut O,
     err: &mut E,
 ) -> Result<bool, WriteFault>
-    ensures found { Certifies O.held O.failures out.old out.new native bundle.now filter.now result }
+    ensures found { Certifies O.held O.failures out.old out.new document.now.native document.now.bytes filter.now result }
     ensures stopped { OnErr result (err.new ≡ err.old) }
     ensures quiet { result ≡ Ok true → err.new ≡ err.old }
     // The record that is explained is the one that was told.
     ensures told { result ≡ Ok false → (err.new ≡ err.old)
-        ⊎ TellsRecord O.held O.failures out.old out.new E.held E.failures err.old err.new native bundle.now }
+        ⊎ TellsRecord O.held O.failures out.old out.new E.held E.failures err.old err.new document.now.native document.now.bytes }
 {
-    let judged = judge_bundle(alloc, native, bundle, filter);
+    let judged = judge_bundle(alloc, document, filter);
     let done = match write_judged(alloc, &judged, out) {
         Ok(done) => done,
         Err(fault) => return Err(fault),
     };
-    tell_found(alloc, native, bundle, &judged, err);
+    tell_found(alloc, document, &judged, err);
     Ok(done)
 }

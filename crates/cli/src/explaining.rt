@@ -6,10 +6,11 @@ ghost use Rattle.cli.specs.Told.{OfBundle, of_one};
 ghost use Rattle.cli.specs.inner.Telling.{IsAuditOf, IsToldOf, TellsText};
 
 use crate::auditing::audited;
-use crate::files::{Files, read_bundle};
+use crate::files::{Files, read_document};
 use crate::stops::Stop;
-use call_tables::Arch;
 use explain::explain_any;
+use machines::Arch;
+use profile_json::Document;
 use std::alloc::{AllocError, Global};
 use texts::Source;
 use wording::Told;
@@ -40,20 +41,22 @@ fn any_of<'a>(call: &[&'a str]) -> Option<&'a str>
 }
 
 // Tells what a bundle says of a call, by its arguments or whatever they are.
-fn explained(alloc: Global, native: Arch, bundle: &[u8], call: &[&str]) -> Result<Told, AllocError>
-    ensures { IfOk result (spec.explained_as native (map (λ c. c.now) call.now) (spec.any_call (map (λ c. c.now) call.now)) bundle.now) }
+fn explained(alloc: Global, document: &Document, call: &[&str]) -> Result<Told, AllocError>
+    ensures { IfOk result (spec.explained_as document.now.native (map (λ c. c.now) call.now)
+        (spec.any_call (map (λ c. c.now) call.now)) document.now.bytes) }
 {
     match any_of(call) {
-        Some(what) => explain_any(alloc, native, bundle, what),
-        None => explain::explain(alloc, native, bundle, call),
+        Some(what) => explain_any(alloc, document, what),
+        None => explain::explain(alloc, document, call),
     }
 }
 
 // The same of a bundle that was read, or want of memory.
-fn told<'a>(alloc: Global, native: Arch, bundle: &[u8], call: &[&str]) -> Result<Told, Stop<'a>>
-    ensures { TellsText (spec.explained_as native (map (λ c. c.now) call.now) (spec.any_call (map (λ c. c.now) call.now)) bundle.now) result }
+fn told<'a>(alloc: Global, document: &Document, call: &[&str]) -> Result<Told, Stop<'a>>
+    ensures { TellsText (spec.explained_as document.now.native (map (λ c. c.now) call.now)
+        (spec.any_call (map (λ c. c.now) call.now)) document.now.bytes) result }
 {
-    match explained(alloc, native, bundle, call) {
+    match explained(alloc, document, call) {
         Ok(told) => Ok(told),
         Err(_no_memory) => Err(Stop::OutOfMemory),
     }
@@ -74,12 +77,12 @@ pub fn explain<'a, F: Files, I: Source>(
         ⊎ ((input.new ≡ input.old) × IsToldOf (F.folder files.old) (bundle.entry.now ∷ [])
         (of_one (OfBundle native (spec.explained_as native (map (λ c. c.now) call.now) (spec.any_call (map (λ c. c.now) call.now))))) result) }
 {
-    match read_bundle(alloc, native, files, bundle) {
-        Ok(text) => {
+    match read_document(alloc, native, files, bundle) {
+        Ok(document) => {
             if asks_audit(call) {
-                return audited(alloc, native, &text, input);
+                return audited(alloc, &document, input);
             }
-            told(alloc, native, &text, call)
+            told(alloc, &document, call)
         }
         Err(stop) => Err(stop),
     }

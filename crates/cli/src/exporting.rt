@@ -1,13 +1,13 @@
 //! What `ccell export` writes: for a big-endian machine, the file is turned once it is whole.
 ghost use Rattle.std.specs.Prelude.{◌≡◌, IfOk};
-ghost use Rattle.call_tables.specs.Arch.{is_big_endian};
+ghost use Rattle.machines.specs.Arch.{is_big_endian};
 ghost use Rattle.cli.specs.Dispatch.{ExportsFor, ExportsTurned};
 ghost use Rattle.cli.specs.Exported.{TellsExported, file_in};
 
 use crate::parts::Form;
 use crate::stops::Stop;
 use byte_order::written_as;
-use call_tables::Arch;
+use machines::Arch;
 use maker::export_bundle;
 use std::alloc::{AllocError, Global};
 use texts::{Sink, ToWrite, write_all};

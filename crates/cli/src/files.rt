@@ -1,15 +1,16 @@
 //! Files by their names, and what the commands read of them.
 ghost use Rattle.std.specs.Prelude.{◌≡◌, IfErr, IfOk, map};
 ghost use Rattle.cli.specs.Dispatch.{FirstUnread, HaveBundles, HaveBytes, StopsAt};
-ghost use Rattle.cli.specs.Files.{HasBundle, HasBytes, HasEnough, HasEnoughFilter};
+ghost use Rattle.cli.specs.Files.{HasBundle, HasBytes, HasDocument, HasEnough, HasEnoughFilter};
 
 use crate::fault::FileFault;
 use crate::stops::Stop;
 use bpf_insn::MAX_INSNS;
 use byte_order::read_as;
-use call_tables::Arch;
 use cert_form::MAX_BYTES;
-use section::bundle_text;
+use machines::Arch;
+use profile_json::Document;
+use section::{bundle_text, take};
 use std::alloc::Global;
 use texts::Source;
 
@@ -95,6 +96,26 @@ pub fn read_bundle<'a, F: Files>(
     match read(alloc, files, name) {
         Ok(bytes) => match bundle_text(alloc, native, bytes) {
             Ok(bundle) => Ok(bundle),
+            Err(_no_memory) => Err(Stop::OutOfMemory),
+        },
+        Err(stop) => Err(stop),
+    }
+}
+
+/// The bundle of a file, which is read for a native machine, once.
+pub fn read_document<'a, F: Files>(
+    alloc: Global,
+    native: Arch,
+    files: &mut F,
+    name: &'a str,
+) -> Result<Document, Stop<'a>>
+    ensures same { F.folder files.new ≡ F.folder files.old }
+    ensures ok { IfOk result (HasDocument native (F.folder files.old) name.entry.now) }
+    ensures err { IfErr result (λ stop. StopsAt (F.folder files.old) name.entry.now stop) }
+{
+    match read(alloc, files, name) {
+        Ok(bytes) => match take(alloc, native, bytes) {
+            Ok(taken) => Ok(taken.document),
             Err(_no_memory) => Err(Stop::OutOfMemory),
         },
         Err(stop) => Err(stop),

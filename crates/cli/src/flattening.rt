@@ -7,8 +7,8 @@ ghost use Rattle.cli.specs.inner.Telling.{IsToldOf};
 use crate::files::{Files, read_each};
 use crate::stops::Stop;
 use byte_order::{each_read_as, written_as};
-use call_tables::Arch;
 use flatten::{Unflat, flatten, line_of};
+use machines::Arch;
 use std::alloc::{AllocError, Global};
 use wording::Told;
 

@@ -1,13 +1,13 @@
 //! In which form a bundle is written that was made: by itself, or its section, which engines take.
 ghost use Rattle.std.specs.Prelude.{◌≡◌, ◌↔◌, IfOk, IsTrue, codes, map, true};
-ghost use Rattle.call_tables.specs.Arch.{family_of};
+ghost use Rattle.machines.specs.Arch.{family_of};
 ghost use Rattle.section.specs.Sections.{IsSectionOf};
 ghost use Rattle.cli.specs.Written.{IsEmptyUnlessDone, IsItsSection, IsWritten, IsWrittenFor, NamesForm};
 ghost use Rattle.cli.specs.inner.Telling.{IsInForm, told_in};
 
 use crate::adapting::Both;
 use crate::stops::Stop;
-use call_tables::{Arch, Family};
+use machines::{Arch, Family};
 use section::section_of;
 use std::alloc::{AllocError, Global};
 use wording::Told;

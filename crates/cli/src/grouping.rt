@@ -8,7 +8,7 @@ use crate::adapting::Both;
 use crate::stops::Stop;
 use allow_groups::{Grown, allow_groups};
 use call_groups::{is_group, is_known};
-use call_tables::Arch;
+use machines::Arch;
 use std::alloc::{AllocError, Global};
 
 // The words that name no groups.

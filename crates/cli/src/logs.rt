@@ -17,7 +17,7 @@ use crate::forms::{form_in, in_form};
 use crate::grouping::{part_words, with_groups};
 use crate::stops::Stop;
 use crate::widening::{from_in, widened};
-use call_tables::Arch;
+use machines::Arch;
 use std::alloc::{AllocError, Global};
 use strace_logs::{Keep, Learned, Log, LogFault, Shown, Wish, learn, replay, wish_of};
 use wording::Told;

@@ -2,21 +2,16 @@
 ghost use Rattle.std.specs.Prelude.{IfOk};
 ghost use Rattle.cli.specs.Read.{HasNames};
 
-use call_tables::Arch;
 use constant_names::names_of;
+use profile_json::Document;
 use std::alloc::{AllocError, Global};
 use wording::Told;
 
 /// What was told of a bundle, and behind it the names of the constants in its conditions.
-pub(crate) fn with_names(
-    alloc: Global,
-    native: Arch,
-    bundle: &[u8],
-    told: Told,
-) -> Result<Told, AllocError>
-    ensures { IfOk result (HasNames native bundle.now told) }
+pub(crate) fn with_names(alloc: Global, document: &Document, told: Told) -> Result<Told, AllocError>
+    ensures { IfOk result (HasNames document.now.native document.now.bytes told) }
 {
-    let lines = names_of(alloc, native, bundle)?;
+    let lines = names_of(alloc, document)?;
     let Told { mut bytes, done } = told;
     bytes.extend_from_slice(&lines)?;
     Ok(Told { bytes, done })

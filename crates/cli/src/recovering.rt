@@ -1,7 +1,7 @@
 //! What `ccell recover` does.
 ghost use Rattle.std.specs.Prelude.{◌≡◌, [], ◌∷◌, Bool, ℕ, IfOk, List, codes, false, map, string_bytes};
 ghost use Rattle.aside.specs.declared.leave.Leave.{Leave as TheLeave};
-ghost use Rattle.call_tables.specs.declared.arch.Arch.{Arch as TheArch};
+ghost use Rattle.machines.specs.declared.arch.Arch.{Arch as TheArch};
 ghost use Rattle.recover.specs.Recovered.{IsRecovered};
 ghost use Rattle.recover_but.specs.RecoveredBut.{IsToldBut};
 ghost use Rattle.byte_order.specs.Turned.{read_as};
@@ -16,7 +16,7 @@ use crate::files::{Files, read_filter};
 use crate::forms::in_form;
 use crate::stops::Stop;
 use aside::Leave;
-use call_tables::Arch;
+use machines::Arch;
 use recover::{Unsaid, line_of, recover};
 use recover_but::{RecoveredBut, recover_told};
 use recover_others::{Unallowed, recover_others};

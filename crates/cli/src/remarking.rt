@@ -1,4 +1,4 @@
-//! What is said behind a no or a refusal of files that are read as bundles: an engine's own profile, or no config at all.
+//! What is said behind a no or a refusal of files that are read as bundles: what they are, or at which place they are wrong.
 ghost use Rattle.std.specs.Prelude.{◌≡◌, take};
 ghost use Rattle.command_line.specs.Lines.{Given, IsCommandLine, texts};
 ghost use Rattle.cli.specs.Parts.{read};
@@ -8,9 +8,8 @@ ghost use Rattle.cli.specs.Remarked.{MayRemark, RemarksOf, RemarksOn};
 use crate::files::Files;
 use crate::parts::{Parts, parts_of};
 use crate::widening::from_in;
-use call_tables::{Arch, Family};
 use command_line::{Command, read_arguments};
-use section::remark_of;
+use machines::{Arch, Family};
 use std::alloc::Global;
 use texts::{Sink, write_all};
 
@@ -55,24 +54,34 @@ fn bundle_names<'a>(command: Command, parts: &Parts<'a>) -> &'a [&'a str]
     }
 }
 
-// Writes the line on the file of a name, if it can be read once more: a pipe gives nothing then.
-fn remark<F: Files, E: Sink>(alloc: Global, native: Arch, name: &str, files: &mut F, err: &mut E)
-    ensures { MayRemark E.held E.failures native err.old err.new }
+// Whether the answer of a command has told the place of a fault itself.
+fn has_told(command: Command) -> bool {
+    matches!(command, Command::Read)
+}
+
+// Writes what is told of the file of a name, if it can be read once more.
+fn remark<F: Files, E: Sink>(
+    alloc: Global,
+    command: Command,
+    native: Arch,
+    name: &str,
+    files: &mut F,
+    err: &mut E,
+)
+    ensures { MayRemark E.held E.failures native name.now err.old err.new }
 {
     let Ok(bytes) = files.read(alloc, name) else {
         return;
     };
-    if bytes.is_empty() {
-        return;
-    }
-    if let Ok(Some(line)) = remark_of(alloc, native, &bytes) {
-        let _ = write_all(line.as_bytes(), err);
+    if let Ok(text) = show::remark_on(alloc, native, name, bytes, has_told(command)) {
+        let _ = write_all(&text, err);
     }
 }
 
 // The same of each name, in order.
 fn remark_each<F: Files, E: Sink>(
     alloc: Global,
+    command: Command,
     native: Arch,
     names: &[&str],
     files: &mut F,
@@ -82,14 +91,14 @@ fn remark_each<F: Files, E: Sink>(
 {
     match names {
         [name, others @ ..] => {
-            remark(alloc, native, name, files, err);
-            remark_each(alloc, native, others, files, err);
+            remark(alloc, command, native, name, files, err);
+            remark_each(alloc, command, native, others, files, err);
         }
         [] => {}
     }
 }
 
-/// Writes a line for each file that the command of these arguments reads as a bundle, but that is neither a bundle nor a section. For the
+/// Writes what is told of each file that the command of these arguments reads as a bundle, and that is none or is wrong. For the
 /// machines of the chosen lists no file is read, and nothing is written.
 pub(crate) fn remark_on<F: Files, E: Sink>(
     alloc: Global,
@@ -107,7 +116,7 @@ pub(crate) fn remark_on<F: Files, E: Sink>(
         Family::Chosen => {}
         Family::Whole => {
             let names = bundle_names(line.command, &parts);
-            remark_each(alloc, parts.native, names, files, err);
+            remark_each(alloc, line.command, parts.native, names, files, err);
         }
     }
 }

@@ -10,13 +10,14 @@ ghost use Rattle.cli.specs.inner.Telling.{IsToldOf};
 
 use crate::beside::compared_beside;
 use crate::exporting::exported;
-use crate::files::{Files, read_bundle};
+use crate::files::{Files, read_document};
 use crate::parts::{Form, Parts};
 use crate::stops::Stop;
 use crate::telling::{reviewed, tell};
 use byte_order::read_as;
-use call_tables::Arch;
+use machines::Arch;
 use page::{Side, page_of_one, page_of_two};
+use profile_json::Document;
 use std::alloc::{AllocError, Global};
 use texts::Sink;
 use wording::Told;
@@ -48,50 +49,46 @@ fn side_of<'a>(name: &'a str, review: &'a Told, graph: &'a Told) -> Side<'a>
 // The page of a bundle of which this is told.
 fn page_of(
     alloc: Global,
-    native: Arch,
     name: &str,
-    bundle: &[u8],
+    document: &Document,
     review: &Told,
 ) -> Result<Told, AllocError>
-    ensures { IfOk result (spec.IsPaged native name.now bundle.now review.now) }
+    ensures { IfOk result (spec.IsPaged document.now.native name.now document.now.bytes review.now) }
 {
-    let graph = graph_of(alloc, native, bundle)?;
+    let graph = graph_of(alloc, document.native(), document.bytes())?;
     let bytes = page_of_one(alloc, &side_of(name, review, &graph))?;
     Ok(Told { bytes, done: true })
 }
 
 // The page of a bundle, or why it is refused.
-fn page_text(alloc: Global, native: Arch, name: &str, bundle: &[u8]) -> Result<Told, AllocError>
-    ensures { IfOk result (spec.TellsPage native name.now bundle.now) }
+fn page_text(alloc: Global, name: &str, document: &Document) -> Result<Told, AllocError>
+    ensures { IfOk result (spec.TellsPage document.now.native name.now document.now.bytes) }
 {
-    let review = review::review(alloc, native, bundle)?;
+    let review = review::review(alloc, document)?;
     if !review.done {
         return Ok(review);
     }
-    page_of(alloc, native, name, bundle, &review)
+    page_of(alloc, name, document, &review)
 }
 
 // A bundle, and what is told of it.
 #[derive(Clone, Copy)]
 struct Reviewed<'a> {
     name: &'a str,
-    bundle: &'a [u8],
+    document: &'a Document,
     review: &'a Told,
 }
 
 // The page of two bundles of which these are told.
-fn page_of_both(
-    alloc: Global,
-    native: Arch,
-    old: &Reviewed<'_>,
-    new: &Reviewed<'_>,
-) -> Result<Told, AllocError>
-    ensures { IfOk result (spec.ArePaged native old.now.name.now new.now.name.now old.now.bundle.now new.now.bundle.now
-        old.now.review.now new.now.review.now) }
+fn page_of_both(alloc: Global, old: &Reviewed<'_>, new: &Reviewed<'_>) -> Result<Told, AllocError>
+    ensures { new.now.document.now.native ≡ old.now.document.now.native
+        → IfOk result (spec.ArePaged old.now.document.now.native old.now.name.now new.now.name.now
+        old.now.document.now.bytes new.now.document.now.bytes old.now.review.now new.now.review.now) }
 {
-    let compared = compared_beside(alloc, native, old.bundle, new.bundle, false)?;
-    let old_graph = graph_of(alloc, native, old.bundle)?;
-    let new_graph = graph_of(alloc, native, new.bundle)?;
+    let compared = compared_beside(alloc, old.document, new.document, false)?;
+    let native = old.document.native();
+    let old_graph = graph_of(alloc, native, old.document.bytes())?;
+    let new_graph = graph_of(alloc, native, new.document.bytes())?;
     let old_side = side_of(old.name, old.review, &old_graph);
     let new_side = side_of(new.name, new.review, &new_graph);
     let bytes = page_of_two(alloc, &old_side, &new_side, &compared.bytes)?;
@@ -104,15 +101,15 @@ type Names<'a> = (&'a str, &'a str);
 // The page of two bundles, or why one is refused.
 fn pages_text(
     alloc: Global,
-    native: Arch,
     names: Names<'_>,
-    old: &[u8],
-    new: &[u8],
+    old: &Document,
+    new: &Document,
 ) -> Result<Told, AllocError>
-    ensures { IfOk result (spec.TellsPages native names.entry.0.now names.entry.1.now old.now new.now) }
+    ensures { new.now.native ≡ old.now.native
+        → IfOk result (spec.TellsPages old.now.native names.entry.0.now names.entry.1.now old.now.bytes new.now.bytes) }
 {
-    let first = review::review(alloc, native, old)?;
-    let second = review::review(alloc, native, new)?;
+    let first = review::review(alloc, old)?;
+    let second = review::review(alloc, new)?;
     if !first.done {
         return Ok(first);
     }
@@ -121,15 +118,15 @@ fn pages_text(
     }
     let old = Reviewed {
         name: names.0,
-        bundle: old,
+        document: old,
         review: &first,
     };
     let new = Reviewed {
         name: names.1,
-        bundle: new,
+        document: new,
         review: &second,
     };
-    page_of_both(alloc, native, &old, &new)
+    page_of_both(alloc, &old, &new)
 }
 
 // The page of the bundle of a file.
@@ -141,8 +138,8 @@ fn paged<'a, F: Files>(
 ) -> Result<Told, Stop<'a>>
     ensures { IsToldOf (F.folder files.old) (bundle.entry.now ∷ []) (of_one (OfBundle native (spec.TellsPage native bundle.entry.now))) result }
 {
-    match read_bundle(alloc, native, files, bundle) {
-        Ok(text) => match page_text(alloc, native, bundle, &text) {
+    match read_document(alloc, native, files, bundle) {
+        Ok(document) => match page_text(alloc, bundle, &document) {
             Ok(told) => Ok(told),
             Err(_no_memory) => Err(Stop::OutOfMemory),
         },
@@ -153,16 +150,15 @@ fn paged<'a, F: Files>(
 // The page of two bundles, of which the first one was read.
 fn both_paged_with<'a, F: Files>(
     alloc: Global,
-    native: Arch,
     names: Names<'a>,
-    first: &[u8],
+    first: &Document,
     files: &mut F,
 ) -> Result<Told, Stop<'a>>
-    ensures { IsToldOf (F.folder files.old) (names.entry.1.now ∷ [])
-        (of_one (OfBundle native (spec.TellsPages native names.entry.0.now names.entry.1.now first.now))) result }
+    ensures { IsToldOf (F.folder files.old) (names.entry.1.now ∷ []) (of_one (OfBundle first.now.native
+        (spec.TellsPages first.now.native names.entry.0.now names.entry.1.now first.now.bytes))) result }
 {
-    match read_bundle(alloc, native, files, names.1) {
-        Ok(second) => match pages_text(alloc, native, names, first, &second) {
+    match read_document(alloc, first.native(), files, names.1) {
+        Ok(second) => match pages_text(alloc, names, first, &second) {
             Ok(told) => Ok(told),
             Err(_no_memory) => Err(Stop::OutOfMemory),
         },
@@ -180,8 +176,8 @@ fn both_paged<'a, F: Files>(
     ensures { IsToldOf (F.folder files.old) (names.entry.0.now ∷ names.entry.1.now ∷ [])
         (of_two (OfBundles native (spec.TellsPages native names.entry.0.now names.entry.1.now))) result }
 {
-    match read_bundle(alloc, native, files, names.0) {
-        Ok(first) => both_paged_with(alloc, native, names, &first, files),
+    match read_document(alloc, native, files, names.0) {
+        Ok(first) => both_paged_with(alloc, names, &first, files),
         Err(stop) => Err(stop),
     }
 }

@@ -6,7 +6,7 @@ ghost use Rattle.maker.specs.Plain.{IsPlainBundle};
 ghost use Rattle.cli.specs.Running.{AnswersScript, FirstUnready, HasAnswered, InTurn, IsBundleOf, RunsBundles, RunsScript};
 
 use crate::stops::Stop;
-use call_tables::Arch;
+use machines::Arch;
 use maker::{Slot, Unready, refuse};
 use session::{Bundle, Bundles, run_script};
 use std::alloc::{AllocError, Global};

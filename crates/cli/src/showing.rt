@@ -1,6 +1,6 @@
 //! What `ccell read`, `ccell annotate` and `ccell draw` tell.
 ghost use Rattle.std.specs.Prelude.{◌≡◌, [], ◌∷◌, ℕ, List, IfOk, string_bytes, true};
-ghost use Rattle.call_tables.specs.declared.arch.Arch.{Arch as TheArch};
+ghost use Rattle.machines.specs.declared.arch.Arch.{Arch as TheArch};
 ghost use Rattle.byte_order.specs.Turned.{read_as};
 ghost use Rattle.show.specs.Read.{IsReadOut};
 ghost use Rattle.show.specs.Shown.{IsAnnotated, IsDrawn};
@@ -10,10 +10,11 @@ ghost use Rattle.cli.specs.Told.{OfBundle, of_one};
 ghost use Rattle.cli.specs.inner.Telling.{IsToldOf};
 ghost use Rattle.wording.specs.declared.told.Told.{Told as TheTold};
 
-use crate::files::{Files, read_bundle, read_filter};
+use crate::files::{Files, read_document, read_filter};
 use crate::naming::with_names;
 use crate::stops::Stop;
-use call_tables::Arch;
+use machines::Arch;
+use profile_json::Document;
 use rules_text::bundle_text;
 use std::alloc::{AllocError, Global};
 use wording::{Told, refused_profile};
@@ -78,14 +79,15 @@ fn with_hint(told: Told) -> Result<Told, AllocError>
 }
 
 // The same, if `lint` has a call to report.
-fn hinted(alloc: Global, native: Arch, bundle: &[u8], told: Told) -> Result<Told, AllocError>
-    ensures { (meaning : TheTold) → IsReadOut native bundle.now meaning → HasNames native bundle.now meaning told
-        → IfOk result (TellsRead native bundle.now) }
+fn hinted(alloc: Global, document: &Document, told: Told) -> Result<Told, AllocError>
+    ensures { (meaning : TheTold) → IsReadOut document.now.native document.now.bytes meaning
+        → HasNames document.now.native document.now.bytes meaning told
+        → IfOk result (TellsRead document.now.native document.now.bytes) }
 {
     if !told.done {
         return Ok(told);
     }
-    let is_passed = compare::lint::hint(alloc, native, bundle)?;
+    let is_passed = compare::lint::hint(alloc, document)?;
     if !is_passed {
         return Ok(told);
     }
@@ -93,12 +95,12 @@ fn hinted(alloc: Global, native: Arch, bundle: &[u8], told: Told) -> Result<Told
 }
 
 // What a bundle means, or where it is wrong, the names of its constants, and whether `lint` has a call to report.
-fn described(alloc: Global, native: Arch, bundle: &[u8]) -> Result<Told, AllocError>
-    ensures { IfOk result (TellsRead native bundle.now) }
+fn described(alloc: Global, document: &Document) -> Result<Told, AllocError>
+    ensures { IfOk result (TellsRead document.now.native document.now.bytes) }
 {
-    let meaning = show::read_out(alloc, native, bundle)?;
-    let told = with_names(alloc, native, bundle, meaning)?;
-    hinted(alloc, native, bundle, told)
+    let meaning = show::read_out(alloc, document)?;
+    let told = with_names(alloc, document, meaning)?;
+    hinted(alloc, document, told)
 }
 
 /// What a bundle means, or where it is wrong.
@@ -110,8 +112,8 @@ pub(crate) fn read_out<'a, F: Files>(
 ) -> Result<Told, Stop<'a>>
     ensures { IsToldOf (F.folder files.old) (bundle.entry.now ∷ []) (of_one (OfBundle native (TellsRead native))) result }
 {
-    match read_bundle(alloc, native, files, bundle) {
-        Ok(text) => match described(alloc, native, &text) {
+    match read_document(alloc, native, files, bundle) {
+        Ok(document) => match described(alloc, &document) {
             Ok(told) => Ok(told),
             Err(_no_memory) => Err(Stop::OutOfMemory),
         },
@@ -130,10 +132,10 @@ fn told_text(text: String) -> Told
 }
 
 // The text of the profile that a bundle means, or why it is refused.
-fn rules_of(alloc: Global, native: Arch, bundle: &[u8]) -> Result<Told, AllocError>
-    ensures { IfOk result (TellsRules native bundle.now) }
+fn rules_of(alloc: Global, document: &Document) -> Result<Told, AllocError>
+    ensures { IfOk result (TellsRules document.now.native document.now.bytes) }
 {
-    match bundle_text(alloc, native, bundle) {
+    match bundle_text(alloc, document) {
         Ok(text) => Ok(told_text(text)),
         Err(error) => refused_profile(alloc, error),
     }
@@ -148,8 +150,8 @@ pub(crate) fn rules<'a, F: Files>(
 ) -> Result<Told, Stop<'a>>
     ensures { IsToldOf (F.folder files.old) (bundle.entry.now ∷ []) (of_one (OfBundle native (TellsRules native))) result }
 {
-    match read_bundle(alloc, native, files, bundle) {
-        Ok(text) => match rules_of(alloc, native, &text) {
+    match read_document(alloc, native, files, bundle) {
+        Ok(document) => match rules_of(alloc, &document) {
             Ok(told) => Ok(told),
             Err(_no_memory) => Err(Stop::OutOfMemory),
         },

@@ -17,12 +17,13 @@ ghost use Rattle.cli.specs.inner.Telling.{IsToldOf, TellsOn, told_in};
 
 use crate::adapting::Both;
 use crate::beside::compared_beside;
-use crate::files::{Files, read, read_bundle};
+use crate::files::{Files, read, read_document};
 use crate::naming::with_names;
 use crate::parts::Parts;
 use crate::stops::Stop;
 use byte_order::read_as;
-use call_tables::Arch;
+use machines::Arch;
+use profile_json::Document;
 use std::alloc::{AllocError, Global};
 use texts::{Sink, write_all};
 use wording::Told;
@@ -123,12 +124,12 @@ pub(crate) fn assembled<'a, F: Files>(
 }
 
 // Which calls get past a bundle, what stands in it and is not read, and the names of its constants.
-fn linted_text(alloc: Global, native: Arch, bundle: &[u8]) -> Result<Told, AllocError>
-    ensures { IfOk result (TellsLinted native bundle.now) }
+fn linted_text(alloc: Global, document: &Document) -> Result<Told, AllocError>
+    ensures { IfOk result (TellsLinted document.now.native document.now.bytes) }
 {
-    let found = compare::lint::lint(alloc, native, bundle)?;
-    let told = show::refusing_unread(alloc, native, bundle, found)?;
-    with_names(alloc, native, bundle, told)
+    let found = compare::lint::lint(alloc, document)?;
+    let told = show::refusing_unread(alloc, document.native(), document.bytes(), found)?;
+    with_names(alloc, document, told)
 }
 
 /// Which calls get past a bundle by bits that the kernel does not read.
@@ -140,8 +141,8 @@ pub(crate) fn linted<'a, F: Files>(
 ) -> Result<Told, Stop<'a>>
     ensures { IsToldOf (F.folder files.old) (bundle.entry.now ∷ []) (of_one (OfBundle native (TellsLinted native))) result }
 {
-    match read_bundle(alloc, native, files, bundle) {
-        Ok(text) => match linted_text(alloc, native, &text) {
+    match read_document(alloc, native, files, bundle) {
+        Ok(document) => match linted_text(alloc, &document) {
             Ok(told) => Ok(told),
             Err(_no_memory) => Err(Stop::OutOfMemory),
         },
@@ -158,8 +159,8 @@ pub(crate) fn reviewed<'a, F: Files>(
 ) -> Result<Told, Stop<'a>>
     ensures { IsToldOf (F.folder files.old) (bundle.entry.now ∷ []) (of_one (OfBundle native (IsReviewed native))) result }
 {
-    match read_bundle(alloc, native, files, bundle) {
-        Ok(text) => match review::review(alloc, native, &text) {
+    match read_document(alloc, native, files, bundle) {
+        Ok(document) => match review::review(alloc, &document) {
             Ok(told) => Ok(told),
             Err(_no_memory) => Err(Stop::OutOfMemory),
         },
@@ -170,16 +171,16 @@ pub(crate) fn reviewed<'a, F: Files>(
 // Compares two bundles, of which the first one was read.
 fn compared_with<'a, F: Files>(
     alloc: Global,
-    native: Arch,
-    first: &[u8],
+    first: &Document,
     new: &'a str,
     at_most: bool,
     files: &mut F,
 ) -> Result<Told, Stop<'a>>
-    ensures { IsToldOf (F.folder files.old) (new.entry.now ∷ []) (of_one (OfBundle native (TellsCompared at_most native first.now))) result }
+    ensures { IsToldOf (F.folder files.old) (new.entry.now ∷ []) (of_one (OfBundle first.now.native
+        (TellsCompared at_most first.now.native first.now.bytes))) result }
 {
-    match read_bundle(alloc, native, files, new) {
-        Ok(second) => match compared_beside(alloc, native, first, &second, at_most) {
+    match read_document(alloc, first.native(), files, new) {
+        Ok(second) => match compared_beside(alloc, first, &second, at_most) {
             Ok(told) => Ok(told),
             Err(_no_memory) => Err(Stop::OutOfMemory),
         },
@@ -198,8 +199,8 @@ fn compared<'a, F: Files>(
 ) -> Result<Told, Stop<'a>>
     ensures { IsToldOf (F.folder files.old) (old.entry.now ∷ new.entry.now ∷ []) (of_two (OfBundles native (TellsCompared at_most native))) result }
 {
-    match read_bundle(alloc, native, files, old) {
-        Ok(first) => compared_with(alloc, native, &first, new, at_most, files),
+    match read_document(alloc, native, files, old) {
+        Ok(first) => compared_with(alloc, &first, new, at_most, files),
         Err(stop) => Err(stop),
     }
 }

@@ -9,7 +9,7 @@ use crate::adapting::Both;
 use crate::files::{Files, read, read_bundle};
 use crate::stops::Stop;
 use byte_order::written_as;
-use call_tables::Arch;
+use machines::Arch;
 use std::alloc::{AllocError, Global};
 use tune::{Tuned, Untuned, refusal, report, tune_bundle};
 use wording::Told;

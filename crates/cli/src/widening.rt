@@ -13,7 +13,7 @@ use crate::combining::combined_of;
 use crate::files::{Files, read_bundle};
 use crate::logs::learned_of;
 use crate::stops::Stop;
-use call_tables::Arch;
+use machines::Arch;
 use std::alloc::{AllocError, Global};
 use strace_logs::{Otherwise, Wish, wish_of};
 use together::Way;

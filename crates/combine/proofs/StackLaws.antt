@@ -5,7 +5,7 @@ use Rattle.std.proofs.lemmas.Option.{same_Some}
 use Rattle.std.proofs.lemmas.List.Elements.{All-cons, All-nil}
 use Rattle.serde_json.specs.Data.{Data}
 use Rattle.call_record.specs.Words.{IsRecord}
-use Rattle.call_tables.specs.declared.arch.Arch.{Arch}
+use Rattle.machines.specs.declared.arch.Arch.{Arch}
 use Rattle.profile.specs.Policy.{Policy, Says}
 use Rattle.profile.specs.Said.{said}
 use Rattle.profile.proofs.SaidLaws.{each_record_is_said_one_verdict}

@@ -1,7 +1,7 @@
 -- Why nothing is drafted is why bundles are not combined.
 use Rattle.std.proofs.Common.{◌≡◌, ℕ, List, [], ◌∷◌, refl, subst}
 use Rattle.std.specs.List.{AllZip}
-use Rattle.call_tables.specs.declared.arch.Arch.{Arch}
+use Rattle.machines.specs.declared.arch.Arch.{Arch}
 use Rattle.profile.specs.Policy.{Policy}
 use Rattle.together.specs.Combined.{IsBundle}
 use Rattle.together.specs.declared.way.Way.{Way}

@@ -1,7 +1,7 @@
 -- What each reason says for which bundles or filters are not combined.
 use Rattle.std.specs.Prelude.{◌≡◌, ◌⊎◌, ℕ, List, [], Some, ⊤, slice_get}
 use Rattle.std.specs.List.{AllZip}
-use Rattle.call_tables.specs.declared.arch.Arch.{Arch}
+use Rattle.machines.specs.declared.arch.Arch.{Arch}
 use Rattle.profile.specs.Policy.{Policy}
 use Rattle.recover.specs.Recovered.{IsRecovered}
 use Rattle.recover.specs.Unsaid.{IsUnsaid}

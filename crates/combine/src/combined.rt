@@ -5,7 +5,7 @@ ghost use Rattle.together.specs.Combined.{IsCombined};
 
 use crate::draft::drafted;
 use crate::uncombined::Uncombined;
-use call_tables::Arch;
+use machines::Arch;
 use std::alloc::Global;
 use together::{Way, if_together, profiles_of};
 

@@ -6,10 +6,10 @@ ghost use Rattle.combine.specs.Uncombined.{IsUndrafted};
 use crate::product::product;
 use crate::uncombined::Uncombined;
 use bpf_insn::{Insn, MAX_INSNS, encode_into};
-use call_tables::Arch;
+use machines::Arch;
 use profile::Profile;
 use profile_json::{Bundle, ProfileError, read_bundle};
-use recover::{Unsaid, recover};
+use recover::{Passed, Unsaid, draft_of};
 use rule_compile::plan;
 use std::alloc::{AllocError, Global};
 use together::Way;
@@ -20,7 +20,14 @@ fn insns_of(alloc: Global, profile: &Profile) -> Result<Vec<Insn>, AllocError> {
     Ok(planned.insns)
 }
 
-// The bundle that says a filter.
+// No call is passed over.
+const ALL_CALLS: Passed = Passed {
+    unnamed: false,
+    x32: false,
+    has_stub: false,
+};
+
+// The bundle that seems to say a filter. It is not judged here: what is made at the end is.
 fn bundle_of(alloc: Global, native: Arch, insns: &[Insn]) -> Result<String, Uncombined>
     ensures { (ps : List Policy) → IfErr result (IsUndrafted native ps) }
 {
@@ -29,7 +36,7 @@ fn bundle_of(alloc: Global, native: Arch, insns: &[Insn]) -> Result<String, Unco
     }
     let mut filter = vec![in alloc; 0u8; 8 * insns.len()]?;
     encode_into(insns, &mut filter);
-    match recover(alloc, native, &filter) {
+    match draft_of(alloc, native, &filter, ALL_CALLS) {
         Ok(bundle) => Ok(bundle),
         Err(Unsaid::OutOfMemory) => Err(Uncombined::OutOfMemory),
         Err(unsaid) => Err(Uncombined::Together(unsaid)),
@@ -41,7 +48,7 @@ fn insns_again(alloc: Global, native: Arch, bundle: &str) -> Result<Vec<Insn>, U
     ensures { (ps : List Policy) → IfErr result (IsUndrafted native ps) }
 {
     match read_bundle(alloc, bundle.as_bytes(), native) {
-        Ok(Bundle { profile }) => Ok(insns_of(alloc, &profile)?),
+        Ok(Bundle { profile, .. }) => Ok(insns_of(alloc, &profile)?),
         Err(ProfileError::OutOfMemory) => Err(Uncombined::OutOfMemory),
         Err(error) => Err(Uncombined::Unread(error)),
     }

@@ -7,7 +7,7 @@ ghost use Rattle.combine.specs.Uncombined.{IsUnsaidAt, IsUnstacked};
 
 use crate::combined::combine;
 use crate::uncombined::Uncombined;
-use call_tables::Arch;
+use machines::Arch;
 use recover::{Unsaid, recover};
 use std::alloc::Global;
 use together::Way;

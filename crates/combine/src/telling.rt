@@ -1,8 +1,9 @@
 //! The line that tells why bundles or filters are not combined.
 use crate::uncombined::Uncombined;
 use call_record::Record;
-use call_tables::Arch;
+use call_tables::call_name;
 use differ::Call;
+use machines::Arch;
 use profile_json::ProfileError;
 use recover::Unsaid;
 use std::alloc::{AllocError, Global};
@@ -16,7 +17,7 @@ fn put_call(text: &mut String, native: Arch, token: u32, nr: u32) -> Result<(), 
         return write!(text, "0x{token:x} {nr}");
     };
     let machine = arch.machine_name();
-    match arch.name(nr) {
+    match call_name(arch, nr) {
         Some(name) => write!(text, "{machine} {name}"),
         None => write!(text, "{machine} {nr}"),
     }

@@ -104,7 +104,7 @@ Example: ccell read linux-x86-64 web.json
 const LINT: &str =
     "Reports each call that the bundle lets through, and refuses if the bits that the kernel does not
 read are 0: with the entry, both values, and the records. No such call is left out; one with too
-many combinations is undecided, and named. Remarks follow, on conditions that mean little, and on
+many answers may be undecided, and is named. Remarks follow, on conditions that mean little, and on
 members that are not read.
 Status 0 if no call gets past and each member is read, 4 if the bundle is refused, or 1.
 
@@ -113,8 +113,8 @@ Example: ccell lint linux-x86-64 web.json
 
 const COMPARE: &str =
     "Reports all calls that the two answer unlike, a line for each and each direction, and last what is
-proved: same, allows no more, allows no less, or allows more and less. A call with more than
-1,048,576 combinations of answers is undecided, and named.
+proved: same, allows no more, allows no less, or allows more and less. A call that can be answered
+in more than 1,048,576 ways may be undecided, and is named.
 Status 0 for same, 4 if a bundle is refused, or 1. With atmost, status 0 if the new bundle allows no more.
 filters: OLD and NEW are filters. A line stands for each call that is found of which they answer
 unlike verdicts. Status 0 if their bytes are the same, or 1.

@@ -3,7 +3,7 @@ use Rattle.std.proofs.Common.{◌≡◌, ◌≢◌, ◌↔◌, ◌==◌, ℕ, Li
 use Rattle.std.specs.Prelude.{IsTrue}
 use Rattle.call_record.specs.Record.{words}
 use Rattle.call_record.specs.Words.{IsRecord}
-use Rattle.call_tables.specs.declared.arch.Arch.{Arch}
+use Rattle.machines.specs.declared.arch.Arch.{Arch}
 use Rattle.maker.specs.declared.evidence.evidence.Conviction.{Conviction}
 use Rattle.maker.specs.declared.evidence.evidence.Evidence.TheVariants.{Convicting}
 use Rattle.maker.specs.Certified.{IsEvidenceFor}

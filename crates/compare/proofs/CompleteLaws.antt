@@ -5,7 +5,7 @@ use Rattle.std.proofs.lemmas.Bool.{and_parts, both_ways, eq-eqb, eqb-true, or_ca
 use Rattle.std.proofs.lemmas.List.Folds.{list_any-append}
 use Rattle.std.proofs.lemmas.List.Elements.{All-head, All-tail}
 use Rattle.call_record.specs.Words.{word}
-use Rattle.call_tables.specs.declared.arch.Family.{Family}
+use Rattle.machines.specs.declared.arch.Family.{Family}
 use Rattle.profile.specs.Policy.{IsClear, Policy}
 use Rattle.differ.specs.Direction.{tells}
 use Rattle.differ.specs.Everywhere.{AreLike}
@@ -224,8 +224,8 @@ pub sides_are : (family : Family) (p q : Policy) (changes : List Change) (more l
     → IsSides p q changes (sides_of more less)
 sides_are family p q changes true true clear_p clear_q listed more less = (more, less)
 sides_are family p q changes true false clear_p clear_q listed more less =
-    (like_allows p q clear_q (turn p q (untold_like family p q changes Less listed less)), more)
+    (like_allows p q (turn p q (untold_like family p q changes Less listed less)), more)
 sides_are family p q changes false true clear_p clear_q listed more less =
-    (like_allows q p clear_p (untold_like family p q changes More listed more), less)
+    (like_allows q p (untold_like family p q changes More listed more), less)
 sides_are family p q changes false false clear_p clear_q listed more less =
-    (like_allows q p clear_p (untold_like family p q changes More listed more), like_allows p q clear_q (turn p q (untold_like family p q changes Less listed less)))
+    (like_allows q p (untold_like family p q changes More listed more), like_allows p q (turn p q (untold_like family p q changes Less listed less)))

@@ -4,7 +4,7 @@ use Rattle.std.specs.Prelude.{slice_index_or}
 use Rattle.std.specs.List.{All, Any, Contains}
 use Rattle.std.proofs.lemmas.List.Elements.{All-contains}
 use Rattle.call_record.specs.Words.{word}
-use Rattle.call_tables.specs.Numbers.{HasCall}
+use Rattle.machines.specs.Numbers.{HasCall}
 use Rattle.profile.specs.Policy.{IsNative, Policy, Says}
 use Rattle.profile.specs.Rule.{Matches}
 use Rattle.profile.specs.declared.rules.Rule.{Rule}

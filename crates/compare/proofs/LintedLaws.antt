@@ -1,7 +1,7 @@
 -- What is told of a bundle, by what is told of its parts.
 use Rattle.std.proofs.Common.{ℕ, ◌≡◌, ◌++◌, Bool, false, List, inl, inr}
 use Rattle.std.specs.Prelude.{◌≢◌, IfOk, IfSome, Result, Ok, Err, codes}
-use Rattle.call_tables.specs.declared.arch.Arch.{Arch}
+use Rattle.machines.specs.declared.arch.Arch.{Arch}
 use Rattle.wording.specs.Told.{TellsLine}
 use Rattle.wording.specs.declared.told.Told.{Told}
 use Rattle.profile_json.specs.Breaks.{Breaks}

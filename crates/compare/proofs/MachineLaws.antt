@@ -3,10 +3,10 @@ use Rattle.std.proofs.Common.{◌≡◌, ◌==◌, ℕ, inl, inr, Bool, true, Li
 use Rattle.std.specs.Prelude.{IfSome, Option, Some, None}
 use Rattle.std.specs.List.{find}
 use Rattle.std.proofs.lemmas.Bool.{and_parts, cases_Bool, eqb-true}
-use Rattle.call_tables.specs.declared.arch.Arch.{Arch}
-use Rattle.call_tables.specs.declared.arch.Family.{Family}
-use Rattle.call_tables.specs.Arch.{machines_of, token_of}
-use Rattle.call_tables.specs.Numbers.{has_call}
+use Rattle.machines.specs.declared.arch.Arch.{Arch}
+use Rattle.machines.specs.declared.arch.Family.{Family}
+use Rattle.machines.specs.Arch.{machines_of, token_of}
+use Rattle.machines.specs.Numbers.{has_call}
 use Rattle.wording.specs.Phrases.{machine_with, or_else}
 
 find_token : (token : ℕ) (test : Arch → Bool) → ((arch : Arch) → test arch ≡ true → token_of arch ≡ token) → (machines : List Arch)

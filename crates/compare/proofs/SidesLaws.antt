@@ -1,7 +1,7 @@
 -- Unlike verdicts of a record.
 use Rattle.std.proofs.Common.{◌≡◌, ◌≢◌, ℕ, List, sym, ◌∙◌, subst}
 use Rattle.call_record.specs.Words.{IsRecord}
-use Rattle.call_tables.specs.declared.arch.Family.{Family}
+use Rattle.machines.specs.declared.arch.Family.{Family}
 use Rattle.wording.specs.Phrases.{machine_with}
 use Rattle.profile.specs.Policy.{Policy, Says}
 use Rattle.compare.specs.Difference.{IsDifference, record_of}

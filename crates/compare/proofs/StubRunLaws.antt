@@ -10,8 +10,8 @@ use Rattle.bpf_insn.specs.Code.{operation_of}
 use Rattle.bpf_insn.specs.Machine.{Ending, Ends, Goes, Registers, after_one, ending, follow, loaded, perform_if, start, step, word_at}
 use Rattle.bpf_insn.proofs.RunLaws.{ending_ends, ending_goes}
 use Rattle.call_record.specs.Words.{word}
-use Rattle.call_tables.specs.declared.numbers.Numbers.{Numbers}
-use Rattle.call_tables.specs.Numbers.{IsWithin}
+use Rattle.machines.specs.declared.numbers.Numbers.{Numbers}
+use Rattle.machines.specs.Numbers.{IsWithin}
 use Rattle.compare.specs.declared.behind_runc.stub.region.Region.{Region}
 use Rattle.compare.specs.inner.Path.{BeginsWithLoad, IsIn, IsPart, IsPartOf, holding}
 

@@ -5,7 +5,7 @@ use Rattle.std.specs.Prelude.{Bool, true, false, Option, Result, Ok, Err}
 use Rattle.bpf_insn.specs.Bytes.{insns_of}
 use Rattle.call_record.proofs.RecordLemmas.{words-is_record}
 use Rattle.call_record.specs.Record.{words}
-use Rattle.call_tables.specs.declared.arch.Arch.{Arch}
+use Rattle.machines.specs.declared.arch.Arch.{Arch}
 use Rattle.cert_check.specs.Right.{IsRight}
 use Rattle.maker.specs.declared.evidence.evidence.Conviction.{Conviction}
 use Rattle.maker.specs.declared.evidence.evidence.Evidence.{Evidence}

@@ -1,7 +1,7 @@
 -- Which calls the lines tell, and that none is left out.
 use Rattle.std.specs.Prelude.{◌≡◌, ◌==◌, ◌&&◌, ◌⊎◌, ℕ, Bool, true, List, ◌∷◌}
 use Rattle.std.specs.List.{All, list_any, flat_map}
-use Rattle.call_tables.specs.declared.arch.Family.{Family}
+use Rattle.machines.specs.declared.arch.Family.{Family}
 use Rattle.wording.specs.Phrases.{machine_with}
 use Rattle.profile.specs.Policy.{Policy}
 use Rattle.differ.specs.Direction.{tells}

@@ -1,7 +1,7 @@
 -- Calls of which two filters answer unlike verdicts.
 use Rattle.std.specs.Prelude.{◌≡◌, ◌≢◌, List, Some, IfSome}
 use Rattle.call_record.specs.Words.{IsRecord}
-use Rattle.call_tables.specs.Arch.{token_of}
+use Rattle.machines.specs.Arch.{token_of}
 use Rattle.bpf_insn.specs.declared.instruction.Insn.{Insn}
 use Rattle.bpf_insn.specs.Machine.{verdict_of}
 use Rattle.compare.specs.Difference.{record_of}

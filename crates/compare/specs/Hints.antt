@@ -1,7 +1,7 @@
 -- Whether a bundle gets the hint that calls get past it.
-use Rattle.std.specs.Prelude.{◌≡◌, ℕ, ◌≢◌, ◌<◌, ◌⊎◌, true, List, IfSome, length}
+use Rattle.std.specs.Prelude.{◌≡◌, ℕ, ◌≢◌, ◌⊎◌, true, List, IfSome}
 use Rattle.std.specs.List.{list_any}
-use Rattle.call_tables.specs.declared.arch.Arch.{Arch}
+use Rattle.machines.specs.declared.arch.Arch.{Arch}
 use Rattle.profile.specs.Policy.{Policy}
 use Rattle.profile_json.specs.Breaks.{Breaks}
 use Rattle.profile_json.specs.Fault.{fault_of}
@@ -26,12 +26,7 @@ pub record IsLeftOpen (p : Policy) : Type 0 where
 abbrev pub IsUnpassed : Policy → Type 0
 IsUnpassed p = NothingGetsPast p ⊎ IsLeftOpen p
 
--- the longest bundle that is looked at, in bytes
-abbrev pub most_hinted : ℕ
-most_hinted = 1048576
-
--- Why a bundle gets no hint. It is longer, or it is refused for a fault that it has. Or its profile is not passed, as far as it is decided.
+-- Why a bundle gets no hint. It is refused for a fault that it has. Or its profile is not passed, as far as it is decided.
 pub data IsUnhinted (native : Arch) (bundle : List ℕ) : Type 0 where
-  long : most_hinted < length bundle → IsUnhinted native bundle
   refused : (error : ProfileError) → error ≢ OutOfMemory → IfSome (fault_of error) (Breaks bundle native) → IsUnhinted native bundle
   unpassed : (p : Policy) → IsBundle native bundle p → IsUnpassed p → IsUnhinted native bundle

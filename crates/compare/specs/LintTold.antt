@@ -9,9 +9,10 @@ use Rattle.hex.specs.Hex.{encode_lower}
 use Rattle.texts.specs.Lines.{line_feed}
 use Rattle.call_record.specs.declared.layout.Record.{Record}
 use Rattle.call_record.specs.Record.{words}
-use Rattle.call_tables.specs.declared.arch.Arch.{Arch}
-use Rattle.call_tables.specs.declared.arch.Family.{Family}
-use Rattle.call_tables.specs.Arch.{family_of, machine_name, table_of}
+use Rattle.machines.specs.declared.arch.Arch.{Arch}
+use Rattle.machines.specs.declared.arch.Family.{Family}
+use Rattle.machines.specs.Arch.{family_of, machine_name}
+use Rattle.call_tables.specs.Tables.{table_of}
 use Rattle.call_tables.specs.Table.{name_in}
 use Rattle.profile.specs.declared.rules.Rule.{Rule}
 use Rattle.profile.specs.Said.{matches}

@@ -1,7 +1,7 @@
 -- What `ccell lint` tells of a bundle.
 use Rattle.std.specs.Prelude.{◌≡◌, ◌⊎◌, ℕ, Bool, true, false, List}
-use Rattle.call_tables.specs.declared.arch.Arch.{Arch}
-use Rattle.call_tables.specs.Arch.{family_of}
+use Rattle.machines.specs.declared.arch.Arch.{Arch}
+use Rattle.machines.specs.Arch.{family_of}
 use Rattle.wording.specs.Told.{RefusesBundle}
 use Rattle.wording.specs.declared.told.Told.{Told}
 use Rattle.widths.specs.Narrow.{IsBundle}

@@ -1,7 +1,7 @@
--- Which of two profiles lets more through.
-use Rattle.std.specs.Prelude.{◌≡◌, ◌&&◌, Bool, true, not, List}
+-- By which of two profiles calls go further.
+use Rattle.std.specs.Prelude.{◌≡◌, Bool, true, List}
 use Rattle.std.specs.List.{list_any}
-use Rattle.call_record.specs.Verdict.{is_through}
+use Rattle.call_record.specs.Fate.{is_further}
 use Rattle.compare.specs.NoMore.{AllowsNoMore}
 use Rattle.profile.specs.Policy.{Policy}
 use Rattle.compare.specs.declared.change.Change.{Change}
@@ -9,15 +9,15 @@ use Rattle.compare.specs.declared.difference.Difference.{Difference}
 use Rattle.compare.specs.declared.sides.Sides.{Sides}
 use Rattle.compare.specs.declared.sides.Sides.TheVariants.{Alike, NoMore, NoLess, MoreAndLess}
 
--- the first profile lets the call through, and the second refuses it
+-- the call goes further by the first profile
 abbrev pub is_less : Difference → Bool
-is_less d = is_through d.first && not (is_through d.second)
+is_less d = is_further d.first d.second
 
--- the second profile lets the call through, and the first refuses it
+-- the call goes further by the second profile
 abbrev pub is_more : Difference → Bool
-is_more d = is_through d.second && not (is_through d.first)
+is_more d = is_further d.second d.first
 
--- a call is told that is allowed no more, or only now
+-- a call is told that goes less far now, or further
 abbrev pub TellsLess : List Change → Type 0
 TellsLess changes = list_any (λ c. is_less c.first) changes ≡ true
 

@@ -1,7 +1,7 @@
 -- Calls that get past a profile, and those of which it is not decided, as lines tell them.
 use Rattle.std.specs.Prelude.{◌≡◌, ◌≢◌, ◌⊎◌, ℕ, true, List, []}
 use Rattle.std.specs.List.{All, list_any}
-use Rattle.call_tables.specs.declared.arch.Family.{Family}
+use Rattle.machines.specs.declared.arch.Family.{Family}
 use Rattle.wording.specs.Phrases.{machine_with}
 use Rattle.differ.specs.OnCall.{is_for}
 use Rattle.unread_bits.specs.Crowded.{AreCrowded}

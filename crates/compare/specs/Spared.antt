@@ -5,9 +5,9 @@ use Rattle.bpf_insn.specs.declared.instruction.Insn.{Insn}
 use Rattle.bpf_insn.specs.Machine.{verdict_of}
 use Rattle.call_record.specs.Verdict.{action, is_through, kill_process, kill_thread}
 use Rattle.call_record.specs.Words.{IsRecord, word}
-use Rattle.call_tables.specs.Arch.{token_of}
-use Rattle.call_tables.specs.Machines.{s390_token, s390x_token, x86_64_token}
-use Rattle.call_tables.specs.Numbers.{HasCall, IsWithin, from_to}
+use Rattle.machines.specs.Arch.{token_of}
+use Rattle.machines.specs.Machines.{s390_token, s390x_token, x86_64_token}
+use Rattle.machines.specs.Numbers.{HasCall, IsWithin, from_to}
 use Rattle.profile.specs.declared.rules.Rule.{Rule}
 use Rattle.profile.specs.Policy.{Policy, Says}
 use Rattle.compare.specs.declared.behind_runc.stub.calls.Calls.{Calls}

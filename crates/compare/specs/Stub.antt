@@ -5,7 +5,7 @@ use Rattle.std.specs.List.{Any}
 use Rattle.bpf_insn.specs.declared.instruction.Insn.{Insn}
 use Rattle.bpf_insn.specs.Machine.{verdict_of}
 use Rattle.call_record.specs.Words.{IsRecord, word}
-use Rattle.call_tables.specs.Numbers.{IsWithin}
+use Rattle.machines.specs.Numbers.{IsWithin}
 use Rattle.compare.specs.declared.behind_runc.stub.calls.Calls.{Calls}
 
 -- the verdict ERRNO with ENOSYS (38)

@@ -1,6 +1,7 @@
 //! Which calls are compared first.
-use call_tables::{Arch, Family};
+use call_tables::call_name;
 use differ::Call;
+use machines::{Arch, Family};
 use std::alloc::{AllocError, Global};
 
 // So many numbers behind the first one that a call may have, no call has one.
@@ -19,7 +20,7 @@ fn add_calls(arch: Arch, calls: &mut Vec<Call>) -> Result<(), AllocError> {
     let token = arch.token();
     for numbers in arch.call_numbers() {
         for nr in numbers.first..numbers.last.saturating_add(1) {
-            if arch.name(nr).is_some() {
+            if call_name(arch, nr).is_some() {
                 calls.push(Call { token, nr })?;
             }
         }

@@ -1,16 +1,17 @@
 //! Calls of some machines, of which two profiles say the same unlike verdicts.
 ghost use Rattle.std.specs.Prelude.{◌≡◌, ℕ, true, IfOk, All, IsTrue};
 ghost use Rattle.std.specs.List.{list_any};
-ghost use Rattle.call_tables.specs.Arch.{table_of};
+ghost use Rattle.call_tables.specs.Tables.{table_of};
 ghost use Rattle.call_tables.specs.Table.{name_in};
-ghost use Rattle.call_tables.specs.declared.arch.Family.{Family as TheFamily};
+ghost use Rattle.machines.specs.declared.arch.Family.{Family as TheFamily};
 ghost use Rattle.profile.specs.Policy.{Policy};
 ghost use Rattle.differ.specs.declared.direction.Direction.{Direction as TheDirection};
 ghost use Rattle.compare.specs.Complete.{differences_in, is_on, is_same, told_of};
 ghost use Rattle.compare.specs.Difference.{IsChange, IsDifference, IsLike, name_of, named};
 
 use crate::difference::Difference;
-use call_tables::Arch;
+use call_tables::call_name;
+use machines::Arch;
 use std::alloc::{AllocError, Global};
 
 /// A difference of two profiles, and those of other machines' calls of that name that are like it.
@@ -26,12 +27,12 @@ pub struct Change {
 fn is_same_name(arch: Arch, nr: u32, machine: Arch, other: u32) -> bool
     ensures { IsTrue result → named (name_in (table_of machine) other) other ≡ named (name_in (table_of arch) nr) nr }
 {
-    match arch.name(nr) {
-        Some(name) => match machine.name(other) {
+    match call_name(arch, nr) {
+        Some(name) => match call_name(machine, other) {
             Some(same) => same == name,
             None => false,
         },
-        None => match machine.name(other) {
+        None => match call_name(machine, other) {
             Some(_) => false,
             None => nr == other,
         },

@@ -2,12 +2,12 @@
 ghost use Rattle.std.specs.Prelude.{◌≡◌, IfSome};
 ghost use Rattle.call_record.specs.Record.{words};
 ghost use Rattle.call_record.specs.Words.{IsRecord};
-ghost use Rattle.call_tables.specs.Arch.{token_of};
+ghost use Rattle.machines.specs.Arch.{token_of};
 ghost use Rattle.wording.specs.Phrases.{machine_with};
 ghost use Rattle.compare.specs.Difference.{record_of};
 
-use call_record::{Record, Word, lets_through, words_are_a_record};
-use call_tables::{Arch, Family};
+use call_record::{Record, Word, words_are_a_record};
+use machines::{Arch, Family};
 use wording::machine_with;
 
 /// A call record, and the verdicts that a first and a second profile say of it.
@@ -35,18 +35,18 @@ impl Difference {
     ghost use Rattle.std.specs.Prelude.{◌≡◌};
     ghost use Rattle.compare.specs.Order.{is_less, is_more};
 
-    /// Whether the first profile lets the call through, and the second refuses it.
+    /// Whether the call goes further by the first profile.
     pub fn is_less(&self) -> bool
         ensures { result ≡ is_less self.now }
     {
-        lets_through(self.first) && !lets_through(self.second)
+        self.first.goes_further(self.second)
     }
 
-    /// Whether the second profile lets the call through, and the first refuses it.
+    /// Whether the call goes further by the second profile.
     pub fn is_more(&self) -> bool
         ensures { result ≡ is_more self.now }
     {
-        lets_through(self.second) && !lets_through(self.first)
+        self.second.goes_further(self.first)
     }
 }
 

@@ -4,7 +4,7 @@ ghost use Rattle.std.specs.List.{All, Contains};
 ghost use Rattle.compare.specs.Equal.{AreEqual};
 
 use call_record::Word;
-use call_tables::Arch;
+use machines::Arch;
 use profile::{Profile, Rule};
 
 fn is_same(a: &Rule, b: &Rule) -> bool

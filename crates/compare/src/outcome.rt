@@ -1,7 +1,7 @@
 //! How two profiles compare.
 ghost use Rattle.std.specs.Prelude.{◌≡◌, List, IfOk};
 ghost use Rattle.std.specs.List.{list_any};
-ghost use Rattle.call_tables.specs.declared.arch.Family.{Family as TheFamily};
+ghost use Rattle.machines.specs.declared.arch.Family.{Family as TheFamily};
 ghost use Rattle.profile.specs.Policy.{IsClear};
 ghost use Rattle.differ.specs.Differences.{AreAll, AreTold};
 ghost use Rattle.differ.specs.declared.direction.Direction.TheVariants.{Any};
@@ -18,8 +18,8 @@ use crate::change::{Change, changes_of};
 use crate::equal::are_equal;
 use crate::search::{Crowded, crowded_of, differences_of};
 use crate::sides::Sides;
-use call_tables::Family;
 use differ::{Differences, all_differences};
+use machines::Family;
 use profile::Profile;
 use std::alloc::{AllocError, Global};
 

@@ -14,8 +14,8 @@ ghost use Rattle.unread_bits.specs.Crowded as past;
 
 use crate::difference::{Difference, difference_on};
 use call_record::Record;
-use call_tables::{Arch, Family};
 use differ::{Call, Found};
+use machines::{Arch, Family};
 use profile::Profile;
 use std::alloc::{AllocError, Global};
 use wording::machine_with;

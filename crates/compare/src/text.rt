@@ -1,7 +1,7 @@
 //! How two profiles compare, as a text.
 ghost use Rattle.std.specs.Prelude.{◌≡◌, ◌++◌, false, IfOk, length, string_bytes};
 ghost use Rattle.std.specs.List.{flat_map};
-ghost use Rattle.call_tables.specs.Arch.{table_of};
+ghost use Rattle.call_tables.specs.Tables.{table_of};
 ghost use Rattle.call_tables.specs.Table.{name_in};
 ghost use Rattle.compare.specs.Difference.{name_of, named};
 ghost use Rattle.compare.specs.Outcome as spec;
@@ -12,7 +12,8 @@ use crate::outcome::Comparison;
 use crate::search::Crowded;
 use crate::sides::Sides;
 use call_record::Word;
-use call_tables::Arch;
+use call_tables::call_name;
+use machines::Arch;
 use std::alloc::{AllocError, Global};
 use std::fmt::Write;
 use wording::ActionText;
@@ -21,7 +22,7 @@ use wording::ActionText;
 fn put_name(text: &mut String, arch: Arch, nr: u32) -> Result<(), AllocError>
     ensures { IfOk result (λ _. string_bytes text.new ≡ string_bytes text.old ++ named (name_in (table_of arch) nr) nr) }
 {
-    match arch.name(nr) {
+    match call_name(arch, nr) {
         Some(name) => text.push_str(name),
         None => write!(text, "{nr}"),
     }

@@ -1,13 +1,13 @@
 //! What `ccell compare` tells.
 ghost use Rattle.std.specs.Prelude.{◌≡◌, ℕ, List, IfOk, string_bytes};
-ghost use Rattle.call_tables.specs.Arch.{family_of};
+ghost use Rattle.machines.specs.Arch.{family_of};
 ghost use Rattle.compare.specs.Told as spec;
 
 use crate::outcome::{Comparison, compared};
 use crate::text::{is_done, text_of};
-use call_tables::Arch;
+use machines::Arch;
 use profile::Profile;
-use profile_json::{ProfileError, read_bundle};
+use profile_json::{Document, ProfileError};
 use std::alloc::{AllocError, Global};
 use wording::Told;
 
@@ -62,31 +62,31 @@ fn compare_with(
     alloc: Global,
     native: Arch,
     one: &Profile,
-    second: &[u8],
+    second: &Document,
     atmost: bool,
 ) -> Result<Told, AllocError>
-    ensures { (first : List ℕ) → spec.IsBundle native first one.now
-        → IfOk result (spec.IsCompared atmost native first second.now) }
+    ensures { (first : List ℕ) → second.now.native ≡ native → spec.IsBundle native first one.now
+        → IfOk result (spec.IsCompared atmost native first second.now.bytes) }
 {
-    match read_bundle(alloc, second, native) {
+    match second.bundle() {
         Ok(other) => compare_profiles(alloc, native, one, &other.profile, atmost),
         Err(error) => refused(alloc, error, 2),
     }
 }
 
-/// Compares what two bundles, which are read for a native machine, say of call records. It was done where they say the same;
-/// with `atmost`, where the second one allows no more than the first.
+/// Compares what two bundles that were read for one machine say of call records. It was done where they say the same; with `atmost`, where
+/// the second one allows no more than the first.
 pub fn compare(
     alloc: Global,
-    native: Arch,
-    first: &[u8],
-    second: &[u8],
+    first: &Document,
+    second: &Document,
     atmost: bool,
 ) -> Result<Told, AllocError>
-    ensures { IfOk result (spec.IsCompared atmost native first.now second.now) }
+    ensures { second.now.native ≡ first.now.native
+        → IfOk result (spec.IsCompared atmost first.now.native first.now.bytes second.now.bytes) }
 {
-    match read_bundle(alloc, first, native) {
-        Ok(one) => compare_with(alloc, native, &one.profile, second, atmost),
+    match first.bundle() {
+        Ok(one) => compare_with(alloc, first.native(), &one.profile, second, atmost),
         Err(error) => refused(alloc, error, 1),
     }
 }

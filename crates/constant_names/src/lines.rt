@@ -10,7 +10,8 @@ ghost use Rattle.constant_names.specs.Lines as spec;
 
 use crate::kinds::{Kind, are_bits, kind_of};
 use crate::named::name_of;
-use call_tables::Arch;
+use call_tables::call_name;
+use machines::Arch;
 use profile::{Cond, Op, Rule};
 use std::alloc::{AllocError, Global};
 use std::fmt::Write;
@@ -232,7 +233,7 @@ fn add_rule(lines: &mut Vec<String>, alloc: Global, rule: &Rule) -> Result<(), A
     if !has_names(rule.arch) {
         return Ok(());
     }
-    match rule.arch.name(rule.nr) {
+    match call_name(rule.arch, rule.nr) {
         Some(call) => add_conditions(lines, alloc, call, rule.conds.as_slice()),
         None => Ok(()),
     }

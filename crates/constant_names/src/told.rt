@@ -6,9 +6,8 @@ ghost use Rattle.constant_names.specs.Lines as spec;
 ghost use Rattle.constant_names.specs.Told.{AreNames, TellsNames};
 
 use crate::lines::lines_of;
-use call_tables::Arch;
 use profile::Rule;
-use profile_json::{ProfileError, read_bundle};
+use profile_json::{Document, ProfileError};
 use std::alloc::{AllocError, Global};
 
 // Whether a line stands among others.
@@ -45,21 +44,21 @@ fn text_of(alloc: Global, rules: &[Rule]) -> Result<String, AllocError>
 }
 
 // The lines of the rules that a bundle means, each once.
-fn text_for(alloc: Global, native: Arch, bundle: &[u8]) -> Result<String, ProfileError>
-    ensures tells { IfOk result (λ text. TellsNames native bundle.now (string_bytes text)) }
+fn text_for(alloc: Global, document: &Document) -> Result<String, ProfileError>
+    ensures tells { IfOk result (λ text. TellsNames document.now.native document.now.bytes (string_bytes text)) }
     // Unless memory ran out, the fault stands in the bundle.
-    ensures fault { IfErr result (λ e. IfSome (fault_of e) (Breaks bundle.now native)) }
+    ensures fault { IfErr result (λ e. IfSome (fault_of e) (Breaks document.now.bytes document.now.native)) }
 {
-    let read = read_bundle(alloc, bundle, native)?;
+    let read = document.bundle()?;
     Ok(text_of(alloc, read.profile.rules())?)
 }
 
 /// The names of the constants that the conditions of a bundle compare arguments with: a line for each call's name, argument and number.
 /// Of a bundle that is refused nothing is told.
-pub fn names_of(alloc: Global, native: Arch, bundle: &[u8]) -> Result<Vec<u8>, AllocError>
-    ensures { IfOk result (λ text. AreNames native bundle.now text.items) }
+pub fn names_of(alloc: Global, document: &Document) -> Result<Vec<u8>, AllocError>
+    ensures { IfOk result (λ text. AreNames document.now.native document.now.bytes text.items) }
 {
-    match text_for(alloc, native, bundle) {
+    match text_for(alloc, document) {
         Ok(text) => Ok(text.into_bytes()),
         Err(ProfileError::OutOfMemory) => Err(AllocError),
         Err(_) => Ok(Vec::new(alloc)),

@@ -1,13 +1,13 @@
 -- What is told stays told where more is found, and covers all calls in the end.
 use Rattle.std.proofs.Common.{◌≡◌, ℕ, ◌<◌, ◌^◌, ◌==◌, ◌&&◌, ◌||◌, ◌++◌, ◌⊎◌, inl, inr, Bool, true, false, not, List, [], ◌∷◌, refl, sym, ◌∙◌, ap, subst, arith}
 use Rattle.std.specs.List.{All, list_any}
-use Rattle.std.proofs.lemmas.Bool.{and_parts, both_ways, cases_Bool, eq-eqb, eqb-true, not-true, or_cases, or_left, or_right}
+use Rattle.std.proofs.lemmas.Bool.{and_parts, both_ways, cases_Bool, eq-eqb, eqb-true, or_cases, or_left, or_right}
 use Rattle.std.proofs.lemmas.List.Folds.{list_any-append}
 use Rattle.std.proofs.lemmas.List.Elements.{All-nil, All-push, All-same}
 use Rattle.call_record.specs.Record.{words}
 use Rattle.call_record.specs.Words.{word}
-use Rattle.call_record.specs.Verdict.{is_through}
-use Rattle.call_tables.specs.Machines.{aarch64_token, arm_token, loongarch64_token, ppc64le_token, riscv64_token, s390_token, s390x_token, x86_64_token, x86_token}
+use Rattle.call_record.specs.Fate.{is_further}
+use Rattle.machines.specs.Machines.{aarch64_token, arm_token, loongarch64_token, ppc64le_token, riscv64_token, s390_token, s390x_token, x86_64_token, x86_token}
 use Rattle.profile.specs.Policy.{Policy}
 use Rattle.differ.specs.OnCall.{AreCrowded, AreLikeOnCall, IsFound, is_for}
 use Rattle.differ.specs.Direction.{tells}
@@ -20,6 +20,7 @@ use Rattle.differ.specs.declared.named.Call.{Call}
 use Rattle.differ.specs.inner.Extended.{Extends}
 use Rattle.differ.specs.Named.{AreCovered, is_call, is_named}
 use Rattle.differ.proofs.NamedLaws.{AreListed, by_machine}
+use Rattle.differ.proofs.StepLaws.{never_further}
 
 -- ---- tests of lists
 
@@ -45,8 +46,7 @@ more_any : (v w : ℕ) → tells More v w ≡ true → tells Any v w ≡ true
 more_any v w h = elim (cases_Bool (v == w)) [
   | inl same ↦ absurd (
       let is : v ≡ w = eqb-true v w same in
-      let parts = and_parts (is_through w) (not (is_through v)) h in
-      both_ways (is_through w) (subst (λ x. is_through x ≡ false) is (not-true (is_through v) parts.1)) parts.0)
+      both_ways (is_further v v) (never_further v) (subst (λ x. is_further x v ≡ true) (sym is) h))
   | inr other ↦ ap not other
 ]
 
@@ -54,8 +54,7 @@ less_any : (v w : ℕ) → tells Less v w ≡ true → tells Any v w ≡ true
 less_any v w h = elim (cases_Bool (v == w)) [
   | inl same ↦ absurd (
       let is : v ≡ w = eqb-true v w same in
-      let parts = and_parts (is_through v) (not (is_through w)) h in
-      both_ways (is_through v) (subst (λ x. is_through x ≡ false) (sym is) (not-true (is_through w) parts.1)) parts.0)
+      both_ways (is_further v v) (never_further v) (subst (λ x. is_further v x ≡ true) (sym is) h))
   | inr other ↦ ap not other
 ]
 

@@ -6,8 +6,8 @@ use Rattle.std.specs.List.{All, find, list_all, list_any}
 use Rattle.std.proofs.lemmas.Bool.{cases_Bool, cases_order, eq-eqb, lt-ltb, le-ltb, ne_eqb, or_parts}
 use Rattle.std.proofs.lemmas.List.Elements.{All-head, All-tail, All-cons, filter_agree}
 use Rattle.call_record.specs.Words.{word}
-use Rattle.call_tables.specs.Arch.{token_of}
-use Rattle.call_tables.specs.Numbers.{has_call}
+use Rattle.machines.specs.Arch.{token_of}
+use Rattle.machines.specs.Numbers.{has_call}
 use Rattle.profile.specs.declared.conditions.Cond.{Cond}
 use Rattle.profile.specs.declared.rules.Rule.{Rule}
 use Rattle.profile.specs.Policy.{Policy, IsClear, Says}
@@ -15,9 +15,8 @@ use Rattle.profile.proofs.SaidLaws.{each_record_is_said_one_verdict}
 use Rattle.profile.specs.Rule.{argument_of}
 use Rattle.profile.specs.Said.{is_native, matches, meets, said}
 use Rattle.differ.specs.Cells.{AreAlike}
-use Rattle.differ.specs.declared.direction.Direction.{Direction}
 use Rattle.differ.specs.declared.opened.Open.{Open}
-use Rattle.differ.specs.OnCall.{AreLikeOn, IsOfCall, conditions_on, is_for, on_argument, rules_for, is_met_at, met_at}
+use Rattle.differ.specs.OnCall.{IsOfCall, conditions_on, is_for, on_argument, rules_for, is_met_at, met_at}
 use Rattle.differ.specs.inner.Open.{AreOpen, is_open, met_before, open_on}
 
 -- ---- tests and filters
@@ -190,14 +189,6 @@ pub says_moves : (p : Policy) (token nr v : ℕ) (r s : List ℕ) → IsClear p.
 says_moves p token nr v r s clear of_r of_s same says =
     let is : v ≡ said p r = (each_record_is_said_one_verdict p r v clear of_r.is_record).0 says in
     (each_record_is_said_one_verdict p s v clear of_s.is_record).1 (is ∙ said_same p token nr r s of_r of_s same)
-
-pub likes_move : (p q : Policy) (token nr : ℕ) (direction : Direction) (held : Open) (r s : List ℕ) → IsClear p.rules → IsClear q.rules
-    → IsOfCall token nr r → IsOfCall token nr s → AreOpen p q token nr 6 held r → AreOpen p q token nr 6 held s
-    → AreLikeOn p q direction s → AreLikeOn p q direction r
-likes_move p q token nr direction held r s clear_p clear_q of_r of_s a b like = λ v w one other.
-    like v w
-    (says_moves p token nr v r s clear_p of_r of_s (sym a.first ∙ b.first) one)
-    (says_moves q token nr w r s clear_q of_r of_s (sym a.second ∙ b.second) other)
 
 -- ---- none known yet
 

@@ -1,12 +1,13 @@
 -- Products of how many ways there are.
-use Rattle.std.proofs.Common.{◌≡◌, ℕ, ◌+◌, ◌*◌, ◌/◌, ◌%◌, ◌<◌, ◌≤◌, ◌++◌, inl, inr, List, length, ◌∙◌, ap, subst, arith}
+use Rattle.std.specs.Prelude.{if◌then◌else◌}
+use Rattle.std.proofs.Common.{◌≡◌, refl, Bool, true, false, ℕ, ◌+◌, ◌*◌, ◌/◌, ◌%◌, ◌<◌, ◌≤◌, ◌++◌, inl, inr, List, length, ◌∙◌, ap, sym, add-one, subst, arith}
 use Rattle.std.proofs.lemmas.Bool.{cases_lt}
 use Rattle.std.proofs.lemmas.Nat.{div-add-mod', le-div, mul-le, pow_pos}
 use Rattle.profile.specs.declared.conditions.Cond.{Cond}
 use Rattle.profile.specs.Policy.{Policy}
 use Rattle.differ.specs.Cells.{AreCells}
-use Rattle.differ.specs.OnCall.{AreWays, bits_of, conditions_of, conditions_on, rules_for}
-use Rattle.differ.specs.OnCall.AreWays.{more}
+use Rattle.std.specs.List.{list_any}
+use Rattle.differ.specs.OnCall.{conditions_of, conditions_on, has_bit, rules_for, ways_by_masks, ways_of, ways_on}
 use Rattle.differ.specs.declared.opened.Open.{Open}
 use Rattle.differ.specs.inner.Open.{open_on}
 
@@ -22,15 +23,48 @@ still_few most n len le =
     let product : len * n ≤ most / n * n = mul-le len n (most / n) n le (omega arith) in
     omega arith
 
+-- ---- counted without a list
+
+pub masks_none : (conds : List Cond) → 1 ≤ ways_by_masks conds 0
+unfolding ways_by_masks
+masks_none conds = omega arith
+
+masks_cases : (b : Bool) (f v w n : ℕ) → f ≡ (if b then 2 else 1) → w ≤ n → v ≤ w * f → v ≤ (if b then 2 else 1) * n
+masks_cases true f v w n is le small = let twice : v ≤ w * 2 = subst (λ x. v ≤ w * x) is small in omega arith
+masks_cases false f v w n is le small = let once : v ≤ w * 1 = subst (λ x. v ≤ w * x) is small in omega arith
+
+-- one place more
+pub masks_more : (conds : List Cond) (n f w v : ℕ) → f ≡ (if list_any (has_bit n) conds then 2 else 1) → w ≤ ways_by_masks conds n → v ≤ w * f
+    → v ≤ ways_by_masks conds (n + 1)
+unfolding ways_by_masks
+masks_more conds n f w v is le small =
+    subst (λ k. v ≤ ways_by_masks conds k) (sym (add-one n)) (masks_cases (list_any (has_bit n) conds) f v w (ways_by_masks conds n) is le small)
+
+pub beyond_more : (most w x : ℕ) → most < w → w ≤ x → most < x
+beyond_more most w x lt le = omega arith
+
+pub ways_small : (count by_masks ways m n : ℕ) → count ≤ m → by_masks ≤ n → ways ≤ (64 * count + 1) * by_masks → ways ≤ (64 * m + 1) * n
+ways_small count by_masks ways m n few few_masks le =
+    let product : (64 * count + 1) * by_masks ≤ (64 * m + 1) * n = mul-le (64 * count + 1) by_masks (64 * m + 1) n (omega arith) few_masks in
+    omega arith
+
+le_through : (a b c : ℕ) → a ≤ b → b ≤ c → a ≤ c
+le_through a b c one other = omega arith
+
 -- one argument more
-pub ways_more : (p q : Policy) (token nr j n bits : ℕ) (held : Open) (conds given : List Cond) (list : List ℕ)
-    → held.first.items ≡ rules_for token nr p.rules → held.second.items ≡ rules_for token nr q.rules → conds ≡ open_on j held → given ≡ conds
-    → bits ≡ bits_of token → AreCells given bits list → AreWays p q token nr j n → AreWays p q token nr (j + 1) (n * length list)
-ways_more p q token nr j n bits held conds given list a b is same width cells ways =
-    let whole : given ≡ conditions_of p q token nr j =
-    same ∙ is ∙ ap (λ rules. conditions_on j rules ++ conditions_on j held.second.items) a
+pub ways_next : (p q : Policy) (token nr j n here ways : ℕ) (held : Open) (conds : List Cond)
+    → held.first.items ≡ rules_for token nr p.rules → held.second.items ≡ rules_for token nr q.rules → conds ≡ open_on j held
+    → n ≤ ways_of p q token nr j → here ≤ ways_on conds → ways ≤ here * n → ways ≤ ways_of p q token nr (j + 1)
+ways_next p q token nr j n here ways held conds a b is few le small =
+    let whole : conds ≡ conditions_of p q token nr j =
+    is ∙ ap (λ rules. conditions_on j rules ++ conditions_on j held.second.items) a
     ∙ ap (λ rules. conditions_on j (rules_for token nr p.rules) ++ conditions_on j rules) b in
-    more j n list ways (subst (λ cs. AreCells cs (bits_of token) list) whole (subst (λ k. AreCells given k list) width cells))
+    let at : here ≤ ways_on (conditions_of p q token nr j) = subst (λ cs. here ≤ ways_on cs) whole le in
+    let product : here * n ≤ ways_on (conditions_of p q token nr j) * ways_of p q token nr j =
+    mul-le here n (ways_on (conditions_of p q token nr j)) (ways_of p q token nr j) at few in
+    let whole_product : ways ≤ ways_on (conditions_of p q token nr j) * ways_of p q token nr j = le_through ways (here * n)
+    (ways_on (conditions_of p q token nr j) * ways_of p q token nr j) small product in
+    subst (λ k. ways ≤ ways_of p q token nr k) (sym (add-one j)) whole_product
 
 -- there is one way at least
 pub some_cell : (conds : List Cond) (bits : ℕ) (list : List ℕ) → AreCells conds bits list → 0 < length list

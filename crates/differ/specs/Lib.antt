@@ -1,5 +1,7 @@
 pub mod Cells
 pub mod Direction
+pub mod Asked
+pub mod Left
 pub mod OnCall
 pub mod Named
 pub mod Differences

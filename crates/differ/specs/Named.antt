@@ -1,8 +1,8 @@
 -- Which calls are named, and numbers of which none is.
 use Rattle.std.specs.Prelude.{◌≡◌, ℕ, ◌==◌, ◌&&◌, Bool, true, false, ◌⊎◌, List}
 use Rattle.std.specs.List.{list_any}
-use Rattle.call_tables.specs.declared.numbers.Numbers.{Numbers}
-use Rattle.call_tables.specs.Numbers.{IsWithin, from_to}
+use Rattle.machines.specs.declared.numbers.Numbers.{Numbers}
+use Rattle.machines.specs.Numbers.{IsWithin, from_to}
 use Rattle.differ.specs.declared.named.Call.{Call}
 
 abbrev pub is_call : ℕ → ℕ → Call → Bool

@@ -1,15 +1,17 @@
 -- What two profiles say of the records of one call.
-use Rattle.std.specs.Prelude.{◌≡◌, ℕ, ◌+◌, ◌<◌, ◌*◌, ◌==◌, ◌&&◌, ◌||◌, ◌++◌, ⊤, not, Bool, false, true, ◌⊎◌, if◌then◌else◌, List, length, filter}
-use Rattle.std.specs.List.{flat_map, list_all}
+use Rattle.std.specs.Prelude.{◌≡◌, ℕ, zero, suc, ◌+◌, ◌<◌, ◌*◌, ◌==◌, ◌&&◌, ◌||◌, ◌++◌, ⊤, not, Bool, false, true, if◌then◌else◌, List, length, filter}
+use Rattle.std.specs.Int.{bit_at}
+use Rattle.std.specs.List.{flat_map, list_all, list_any}
 use Rattle.call_record.specs.Words.{IsRecord, word}
 use Rattle.call_record.specs.Record.{words}
-use Rattle.call_tables.specs.Arch.{token_of}
-use Rattle.call_tables.specs.Width.{is_narrow}
+use Rattle.machines.specs.Arch.{token_of}
+use Rattle.machines.specs.Width.{is_narrow}
 use Rattle.profile.specs.declared.conditions.Cond.{Cond}
+use Rattle.profile.specs.declared.conditions.Op.{Op}
+use Rattle.profile.specs.declared.conditions.Op.TheVariants.{Ne, Lt, Le, Eq, Ge, Gt, MaskedEq}
 use Rattle.profile.specs.declared.rules.Rule.{Rule}
 use Rattle.profile.specs.Policy.{Policy, Says}
 use Rattle.profile.specs.Said.{meets}
-use Rattle.differ.specs.Cells.{AreCells, AreTooMany}
 use Rattle.differ.specs.Direction.{tells}
 use Rattle.differ.specs.declared.direction.Direction.{Direction}
 use Rattle.differ.specs.declared.found.Found.{Found}
@@ -69,21 +71,44 @@ is_met_at j u rule = list_all (met_at j u) rule.conds.items
 abbrev pub conditions_of : Policy → Policy → ℕ → ℕ → ℕ → List Cond
 conditions_of p q token nr j = conditions_on j (rules_for token nr p.rules) ++ conditions_on j (rules_for token nr q.rules)
 
--- n is the product of the numbers of ways in which the conditions on each of the first arguments can answer
-pub data AreWays (p q : Policy) (token nr : ℕ) : ℕ → ℕ → Type 0 where
-  none : AreWays p q token nr 0 1
-  more : (j n : ℕ) (list : List ℕ) → AreWays p q token nr j n → AreCells (conditions_of p q token nr j) (bits_of token) list
-      → AreWays p q token nr (j + 1) (n * length list)
+abbrev pub is_masked : Op → Bool
+is_masked Ne = false
+is_masked Lt = false
+is_masked Le = false
+is_masked Eq = false
+is_masked Ge = false
+is_masked Gt = false
+is_masked MaskedEq = true
 
--- how many of their combinations are looked at at most
+-- the condition is one under a mask that has the bit at a place
+abbrev pub has_bit : ℕ → Cond → Bool
+has_bit place c = is_masked c.op && (bit_at c.value place == 1)
+
+-- two ways for each of the lowest n bits that a mask of the conditions has
+unfoldable pub ways_by_masks : List Cond → ℕ → ℕ
+ways_by_masks conds zero = 1
+ways_by_masks conds (suc n) = (if list_any (has_bit n) conds then 2 else 1) * ways_by_masks conds n
+
+-- how many of the conditions compare a number with another
+abbrev pub comparisons : List Cond → ℕ
+comparisons conds = length (filter (λ c. not (is_masked c.op)) conds)
+
+-- In how many ways an argument is answered at most. Each of its 64 bits may be where it departs from a number that it is compared with.
+unfoldable pub ways_on : List Cond → ℕ
+ways_on conds = (64 * comparisons conds + 1) * ways_by_masks conds 64
+
+-- the product of those of the first n arguments
+abbrev pub ways_of : Policy → Policy → ℕ → ℕ → ℕ → ℕ
+ways_of p q token nr zero = 1
+ways_of p q token nr (suc n) = ways_on (conditions_of p q token nr n) * ways_of p q token nr n
+
+-- how many ways are walked through, however long that takes
 abbrev pub most_combinations : ℕ
 most_combinations = 1048576
 
--- they are more already for some of the arguments, or for one
+-- the six arguments are answered in more ways than that
 abbrev pub AreCrowded : Policy → Policy → ℕ → ℕ → Type 0
-AreCrowded p q token nr =
-    ((j : ℕ) × (n : ℕ) × AreWays p q token nr j n × (most_combinations < n))
-    ⊎ ((j : ℕ) × AreTooMany (conditions_of p q token nr j) (bits_of token))
+AreCrowded p q token nr = most_combinations < ways_of p q token nr 6
 
 abbrev pub IsUnsettled : Policy → Policy → ℕ → ℕ → Unlisted → Type 0
 IsUnsettled p q token nr TooMany = AreCrowded p q token nr

@@ -3,16 +3,17 @@ ghost use Rattle.std.specs.Prelude.{◌≡◌};
 ghost use Rattle.differ.specs.declared.direction.Direction.TheVariants.{Any, More};
 ghost use Rattle.differ.specs.Direction.{tells};
 
-use call_record::{Word, lets_through};
+use call_record::Word;
 
 /// Which unlike verdicts of two profiles are looked for.
 #[derive(Clone, Copy, Debug, PartialEq, Eq)]
 pub enum Direction {
     /// Any.
     Any,
-    /// The second one lets the call through, and the first refuses it.
+    /// By the second one the call goes further: it is let through and not by the first, or left to a tracer or a listener
+    /// where the first refuses it.
     More,
-    /// The first one lets the call through, and the second refuses it.
+    /// By the first one it goes further.
     Less,
 }
 
@@ -22,11 +23,11 @@ fn are_unlike(first: Word, second: Word) -> bool
     first != second
 }
 
-// Whether a call is carried out only by the second verdict.
+// Whether a call goes further by the second verdict.
 fn is_gained(first: Word, second: Word) -> bool
     ensures { result ≡ tells More first second }
 {
-    lets_through(second) && !lets_through(first)
+    second.goes_further(first)
 }
 
 /// Whether two verdicts are unlike in a direction.

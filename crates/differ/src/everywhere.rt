@@ -3,11 +3,11 @@ ghost use Rattle.std.specs.Prelude.{◌≡◌, ℕ, true, IfOk};
 ghost use Rattle.std.specs.List.{list_any};
 ghost use Rattle.profile.specs.Policy.{IsClear};
 ghost use Rattle.differ.specs.OnCall.{is_for};
-ghost use Rattle.call_tables.specs.Machines.{aarch64_token, arm_token, loongarch64_token, ppc64le_token, riscv64_token, s390_token, s390x_token, x86_64_token, x86_token};
+ghost use Rattle.machines.specs.Machines.{aarch64_token, arm_token, loongarch64_token, ppc64le_token, riscv64_token, s390_token, s390x_token, x86_64_token, x86_token};
 ghost use Rattle.differ.specs.Named.{AreCovered, is_named};
 
 use crate::named::{Call, add_rest, add_rules};
-use call_tables::Arch;
+use machines::Arch;
 use profile::Profile;
 use std::alloc::{AllocError, Global};
 

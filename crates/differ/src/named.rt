@@ -1,11 +1,11 @@
 //! Calls that rules of two profiles name, and calls that stand for all others.
 ghost use Rattle.std.specs.Prelude.{◌≡◌, ◌≤◌, ◌++◌, ℕ, true, false, IfOk, IfSome, IfNone};
 ghost use Rattle.std.specs.List.{list_any};
-ghost use Rattle.call_tables.specs.Numbers.{IsWithin};
+ghost use Rattle.machines.specs.Numbers.{IsWithin};
 ghost use Rattle.differ.specs.OnCall.{is_for};
 ghost use Rattle.differ.specs.Named.{AreCovered, IsCovered, is_call, is_named};
 
-use call_tables::Numbers;
+use machines::Numbers;
 use profile::Rule;
 use std::alloc::AllocError;
 

@@ -1,70 +1,46 @@
 //! Whether two profiles differ on a call.
 ghost use Rattle.std.specs.Prelude.{◌≡◌, true, IfOk, IfErr, IfSome, IfNone};
-ghost use Rattle.differ.specs.OnCall.{AreCrowded, AreLikeOnCall, IsFound, IsUnsettled, rules_for};
-ghost use Rattle.differ.specs.declared.listed.Unlisted.TheVariants.{OutOfMemory};
+ghost use Rattle.differ.specs.OnCall.{AreCrowded, AreLikeOnCall, IsFound, IsUnsettled};
 
 use crate::direction::Direction;
-use crate::found::Found;
-use crate::listed::{Unlisted, cells};
-use crate::opened::{Open, conditions_at, open_for};
-use crate::walk::{Budget, bits_of, walk};
-use call_record::Record;
+use crate::found::{Found, found_on};
+use crate::listed::Unlisted;
+use crate::memory::{Memory, empty_memory};
+use crate::opened::open_for;
+use crate::sides::side_of;
+use crate::walk::{bits_of, unlike_at};
+use crate::ways::are_crowded;
+use call_record::{Record, words_are_a_record};
 use profile::Profile;
-use std::alloc::Global;
+use std::alloc::{AllocError, Global};
 
-/// How many combinations are looked at at most.
-pub const MOST_COMBINATIONS: usize = 1_048_576;
-
-// Whether the ways in which the conditions on each argument can answer have few combinations.
-fn are_few(
+/// What a walk begins with: its steps are limited where the call is crowded.
+pub fn memory_for(
     alloc: Global,
     first: &Profile,
     second: &Profile,
-    held: &Open,
     token: u32,
     nr: u32,
-) -> Result<(), Unlisted>
-    requires first { held.now.first.items ≡ rules_for token nr first.now.rules }
-    requires second { held.now.second.items ≡ rules_for token nr second.now.rules }
-    ensures { IfErr result (IsUnsettled first.now second.now token nr) }
+) -> Result<Memory, AllocError>
+    ensures { IfOk result (λ begun. begun.limited ≡ true → AreCrowded first.now second.now token nr) }
 {
-    let mut ways: usize = 1;
-    for index in 0..6 {
-        let conds = conditions_at(alloc, held, index)?;
-        let values = cells(alloc, &conds, bits_of(token))?;
-        let count = values.len();
-        if count > MOST_COMBINATIONS / ways {
-            return Err(Unlisted::TooMany);
-        }
-        ways *= count;
-    }
-    Ok(())
+    let held = open_for(alloc, first, second, token, nr)?;
+    let limited = are_crowded(alloc, first, second, &held, token, nr)?;
+    Ok(empty_memory(alloc, limited))
 }
 
-// The budget of a walk: one without a limit where there are few.
-fn budget_for(
-    alloc: Global,
-    first: &Profile,
-    second: &Profile,
-    held: &Open,
-    token: u32,
-    nr: u32,
-) -> Result<Budget, Unlisted>
-    requires first { held.now.first.items ≡ rules_for token nr first.now.rules }
-    requires second { held.now.second.items ≡ rules_for token nr second.now.rules }
-    ensures limited { IfOk result (λ budget. budget.limited ≡ true → AreCrowded first.now second.now token nr) }
-    ensures err { IfErr result (λ e. e ≡ OutOfMemory) }
+// The record of a call with these arguments.
+fn record_of(token: u32, nr: u32, args: [u64; 6]) -> Record
+    ensures arch { result.arch ≡ token }
+    ensures nr { result.nr ≡ nr }
+    ensures ip { result.ip ≡ 0 }
+    ensures args { result.args ≡ args }
 {
-    match are_few(alloc, first, second, held, token, nr) {
-        Ok(()) => Ok(Budget {
-            limited: false,
-            left: MOST_COMBINATIONS,
-        }),
-        Err(Unlisted::TooMany) => Ok(Budget {
-            limited: true,
-            left: MOST_COMBINATIONS,
-        }),
-        Err(Unlisted::OutOfMemory) => Err(Unlisted::OutOfMemory),
+    Record {
+        nr,
+        arch: token,
+        ip: 0,
+        args,
     }
 }
 
@@ -81,22 +57,18 @@ pub fn differ_on(
     ensures none { IfOk result (λ found. IfNone found (AreLikeOnCall first.now second.now token nr direction)) }
     ensures unsettled { IfErr result (IsUnsettled first.now second.now token nr) }
 {
-    let held = open_for(alloc, first, second, token, nr)?;
-    let call = Record {
-        nr,
-        arch: token,
-        ip: 0,
-        args: [0; 6],
-    };
-    let mut budget = budget_for(alloc, first, second, &held, token, nr)?;
-    walk(
-        alloc,
-        first,
-        second,
-        direction,
-        &held,
-        &call,
-        0,
-        &mut budget,
-    )
+    first.rules();
+    second.rules();
+    let one = side_of(alloc, first, token, nr)?;
+    let other = side_of(alloc, second, token, nr)?;
+    let mut memory = memory_for(alloc, first, second, token, nr)?;
+    let bits = bits_of(token);
+    match unlike_at(alloc, direction, one, other, 0, bits, bits, &mut memory)? {
+        None => Ok(None),
+        Some(args) => {
+            let call = record_of(token, nr, args);
+            words_are_a_record(&call);
+            Ok(found_on(first, second, direction, &call))
+        }
+    }
 }

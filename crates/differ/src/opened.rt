@@ -89,21 +89,6 @@ pub fn rules_with(
     Ok(list)
 }
 
-/// Those of both profiles.
-pub(crate) fn open_with(
-    alloc: Global,
-    held: &Open,
-    index: usize,
-    value: u64,
-) -> Result<Open, AllocError>
-    ensures first { IfOk result (λ next. next.first.items ≡ filter (is_met_at index value) held.now.first.items) }
-    ensures second { IfOk result (λ next. next.second.items ≡ filter (is_met_at index value) held.now.second.items) }
-{
-    let first = rules_with(alloc, &held.first, index, value)?;
-    let second = rules_with(alloc, &held.second, index, value)?;
-    Ok(Open { first, second })
-}
-
 fn is_on(cond: &Cond, index: usize) -> bool
     ensures { result ≡ (cond.now.index == index) }
 {

@@ -1,45 +1,87 @@
-//! Open rules by which two profiles agree, whatever else is known of a call.
-ghost use Rattle.std.specs.Prelude.{◌≡◌, ℕ, true, List};
-ghost use Rattle.differ.specs.declared.direction.Direction.{Direction};
-ghost use Rattle.differ.specs.OnCall.{AreLikeOn, IsOfCall};
-ghost use Rattle.differ.specs.inner.Open.{AreOpen};
+//! Whether the same is left of two sides.
+ghost use Rattle.std.specs.Prelude.{◌≡◌, ℕ, true};
+ghost use Rattle.differ.specs.Left.{are_met, side_says, verdict};
 
-use crate::opened::Open;
-use call_record::Word;
-use call_tables::Arch;
-use profile::{Profile, Rule};
+use crate::asked::Ask;
+use crate::left::{Part, Rest, Side};
+use profile::Op;
 
-fn are_same_machines(these: &[Arch], others: &[Arch]) -> bool
-    ensures { result ≡ true → these.now ≡ others.now }
+fn is_same_op(one: Op, other: Op) -> bool
+    ensures { result ≡ true → one ≡ other }
 {
-    these == others
+    one == other
 }
 
-fn is_same_word(a: Word, b: Word) -> bool
-    ensures { result ≡ true → a ≡ b }
+fn is_same_ask(one: &Ask, other: &Ask) -> bool
+    ensures { result ≡ true → one.now ≡ other.now }
 {
-    a == b
-}
-
-fn are_same_rules(these: &[Rule], others: &[Rule]) -> bool
-    ensures { result ≡ true → these.now ≡ others.now }
-{
-    these == others
-}
-
-/// Whether two profiles agree on all records of a call that leave these rules open: both have the same open rules, machines and default
-/// verdict.
-pub(crate) fn agree_by(first: &Profile, second: &Profile, held: &Open, token: u32, nr: u32) -> bool
-    ensures { result ≡ true → (direction : Direction) (j : ℕ) (r : List ℕ) → IsOfCall token nr r
-        → AreOpen first.now second.now token nr j held.now r → AreLikeOn first.now second.now direction r }
-{
-    first.rules();
-    second.rules();
-    if !is_same_word(first.default_word(), second.default_word()) {
+    if !is_same_op(one.op, other.op) {
         return false;
     }
-    if !are_same_machines(first.machines(), second.machines()) {
+    if one.value != other.value {
         return false;
     }
-    are_same_rules(&held.first, &held.second)
+    if one.datum != other.datum {
+        return false;
+    }
+    one.read == other.read
+}
+
+fn is_same_part(one: &Part, other: &Part) -> bool
+    ensures { result ≡ true → one.now ≡ other.now }
+{
+    if one.index != other.index {
+        return false;
+    }
+    is_same_ask(&one.ask, &other.ask)
+}
+
+// Whether two lists of parts are one.
+fn are_same_parts(these: &[Part], those: &[Part]) -> bool
+    ensures { result ≡ true → these.now ≡ those.now }
+{
+    if these.len() != those.len() {
+        return false;
+    }
+    for i in 0..these.len() {
+        if !is_same_part(&these[i], &those[i]) {
+            return false;
+        }
+    }
+    true
+}
+
+// Whether two rules that are left have one verdict and the same parts.
+fn is_same_rest(one: &Rest, other: &Rest) -> bool
+    ensures word { result ≡ true → one.now.word ≡ other.now.word }
+    ensures parts { result ≡ true → one.now.parts.items ≡ other.now.parts.items }
+{
+    if one.word != other.word {
+        return false;
+    }
+    are_same_parts(&one.parts, &other.parts)
+}
+
+fn are_same_rules(these: &[Rest], those: &[Rest]) -> bool
+    ensures { result ≡ true → (last : ℕ) (a : ℕ → ℕ) → verdict last these.now a ≡ verdict last those.now a }
+{
+    if these.len() != those.len() {
+        return false;
+    }
+    for i in 0..these.len() {
+        if !is_same_rest(&these[i], &those[i]) {
+            return false;
+        }
+    }
+    true
+}
+
+/// Whether the same is left of both, so that they say the same.
+pub(crate) fn are_same(one: &Side, other: &Side) -> bool
+    ensures { result ≡ true → (a : ℕ → ℕ) → side_says one.now a ≡ side_says other.now a }
+{
+    if one.last != other.last {
+        return false;
+    }
+    are_same_rules(&one.rules, &other.rules)
 }

@@ -1,17 +1,19 @@
-//! A walk through the ways in which a call's arguments can be answered.
-ghost use Rattle.std.specs.Prelude.{◌≡◌, ℕ, true, List, ◌<◌, ◌≤◌, ◌^◌, IfOk, IfErr, IfSome, IfNone, slice_index, slice_set};
-ghost use Rattle.call_record.specs.Record.{words};
-ghost use Rattle.differ.specs.OnCall.{AreLikeOn, IsFound, IsOfCall, bits_of};
-ghost use Rattle.differ.specs.inner.Open.{AreOpen, HasFirst, IsStopped};
+//! A walk through the bits of a call's arguments, the high ones first.
+ghost use Rattle.std.specs.Prelude.{◌≡◌, ◌+◌, ℕ, true, false, ◌<◌, ◌≤◌, ◌^◌, IfOk, IfErr, IfSome, IfNone, length, slice_index, slice_set};
+ghost use Rattle.differ.specs.Direction as spec;
+ghost use Rattle.differ.specs.Left.{AreNeverUnlike, AreUnlikeAt, IsWithout, side_says};
+ghost use Rattle.differ.specs.OnCall.{bits_of};
+ghost use Rattle.differ.specs.inner.Walk.{IsStopped};
 
-use crate::direction::Direction;
-use crate::found::{Found, found_on};
-use crate::listed::{Unlisted, cells};
-use crate::opened::{Open, conditions_at, open_with};
-use crate::same::agree_by;
-use call_record::{Record, words_are_a_record};
-use call_tables::is_narrow;
-use profile::Profile;
+use crate::bounded::is_bounded;
+use crate::direction::{Direction, tells};
+use crate::end::at_end;
+use crate::known::{Known, Question};
+use crate::left::{Side, ask_of, side_with};
+use crate::listed::Unlisted;
+use crate::memory::{Memory, is_known, keep, number_for, spend};
+use crate::same::are_same;
+use machines::is_narrow;
 use std::alloc::Global;
 
 /// How many bits are compared of an argument.
@@ -22,115 +24,118 @@ pub fn bits_of(token: u32) -> u32
     if is_narrow(token) { 32 } else { 64 }
 }
 
-// The call with one argument replaced.
-fn with_argument(call: &Record, index: usize, value: u64) -> Record
-    requires { index < 6 }
-    ensures nr { result.nr ≡ call.now.nr }
-    ensures arch { result.arch ≡ call.now.arch }
-    ensures ip { result.ip ≡ call.now.ip }
-    ensures args { result.args ≡ slice_set call.now.args index value }
+// Arguments with a bit more.
+fn with_bit(args: [u64; 6], index: usize, place: u32) -> [u64; 6]
+    requires index { index < 6 }
+    requires place { place < 64 }
+    requires small { slice_index args index < 2 ^ place }
+    ensures within { index < length args }
+    ensures is { result ≡ slice_set args index (slice_index args index + 2 ^ place) }
 {
-    let mut args = call.args;
-    args[index] = value;
-    Record {
-        nr: call.nr,
-        arch: call.arch,
-        ip: call.ip,
-        args,
-    }
+    let mut more = args;
+    more[index] += 1u64 << place;
+    more
 }
 
-/// How many combinations may still be looked at, if that is limited.
-#[derive(Drop)]
-pub(crate) struct Budget {
-    pub(crate) limited: bool,
-    pub(crate) left: usize,
-}
-
-// Counts a combination.
-fn spend(budget: &mut Budget) -> Result<(), Unlisted>
-    ensures limited { budget.new.limited ≡ budget.old.limited }
-    ensures err { IfErr result (λ _. budget.old.limited ≡ true) }
+fn are_empty(one: &Side, other: &Side) -> bool
+    ensures { result ≡ true → (a : ℕ → ℕ) → (side_says one.now a ≡ one.now.last) × (side_says other.now a ≡ other.now.last) }
 {
-    if !budget.limited {
-        return Ok(());
+    if !one.rules.is_empty() {
+        return false;
     }
-    if budget.left == 0 {
-        return Err(Unlisted::TooMany);
-    }
-    budget.left -= 1;
-    Ok(())
+    other.rules.is_empty()
 }
 
-// The same where all arguments are known.
-fn at_end(
-    first: &Profile,
-    second: &Profile,
-    direction: Direction,
-    held: &Open,
-    call: &Record,
-) -> Option<Found>
-    requires ip { call.now.ip ≡ 0 }
-    requires small { (i : ℕ) → i < 6 → slice_index call.now.args i < 2 ^ bits_of call.now.arch }
-    requires sample { (r : List ℕ) → IsOfCall call.now.arch call.now.nr r → HasFirst call.now.args 6 r
-        → AreOpen first.now second.now call.now.arch call.now.nr 6 held.now r }
-    ensures some { IfSome result (IsFound first.now second.now call.now.arch call.now.nr direction) }
-    ensures none { IfNone result ((r : List ℕ) → IsOfCall call.now.arch call.now.nr r
-        → AreOpen first.now second.now call.now.arch call.now.nr 6 held.now r → AreLikeOn first.now second.now direction r) }
+// Whether the verdicts of both sides are known, and not unlike.
+fn are_settled(direction: Direction, one: &Side, other: &Side) -> bool
+    ensures { result ≡ true → (a : ℕ → ℕ) → spec.tells direction (side_says one.now a) (side_says other.now a) ≡ false }
 {
-    first.rules();
-    second.rules();
-    words_are_a_record(call);
-    found_on(first, second, direction, call)
+    if are_same(one, other) {
+        return true;
+    }
+    if is_bounded(direction, one, other) {
+        return true;
+    }
+    if !are_empty(one, other) {
+        return false;
+    }
+    !tells(direction, one.last, other.last)
 }
 
-/// The first record of a call on which two profiles differ in a direction. It is of those that have the first arguments of this
-/// one, or such as the open rules answer alike.
-pub(crate) fn walk(
+// Whether nothing more is asked of an argument.
+fn is_passed(one: &Side, other: &Side, index: usize, rest: u32) -> bool
+    ensures some { result ≡ false → 0 < rest }
+    ensures one { result ≡ true → (a b : ℕ → ℕ) → IsWithout index rest a b → side_says one.now b ≡ side_says one.now a }
+    ensures other { result ≡ true → (a b : ℕ → ℕ) → IsWithout index rest a b → side_says other.now b ≡ side_says other.now a }
+{
+    if rest == 0 {
+        return true;
+    }
+    if ask_of(&one.rules, index) {
+        return false;
+    }
+    !ask_of(&other.rules, index)
+}
+
+/// Arguments for which two sides say verdicts that are unlike in a direction; `None` where there are none. The first arguments are 0,
+/// one has so many bits, and later ones have all.
+pub fn unlike_at(
     alloc: Global,
-    first: &Profile,
-    second: &Profile,
     direction: Direction,
-    held: &Open,
-    call: &Record,
+    one: Side,
+    other: Side,
     index: usize,
-    budget: &mut Budget,
-) -> Result<Option<Found>, Unlisted>
+    rest: u32,
+    bits: u32,
+    memory: &mut Memory,
+) -> Result<Option<[u64; 6]>, Unlisted>
     requires within { index ≤ 6 }
-    requires ip { call.now.ip ≡ 0 }
-    requires small { (i : ℕ) → i < index → slice_index call.now.args i < 2 ^ bits_of call.now.arch }
-    requires sample { (r : List ℕ) → IsOfCall call.now.arch call.now.nr r → HasFirst call.now.args index r
-        → AreOpen first.now second.now call.now.arch call.now.nr index held.now r }
-    ensures found { IfOk result (λ found. IfSome found (IsFound first.now second.now call.now.arch call.now.nr direction)) }
-    ensures none { IfOk result (λ found. IfNone found ((r : List ℕ) → IsOfCall call.now.arch call.now.nr r
-        → AreOpen first.now second.now call.now.arch call.now.nr index held.now r → AreLikeOn first.now second.now direction r)) }
-    ensures stopped { IfErr result (IsStopped budget.old.limited call.now.arch held.now) }
-    ensures limited { budget.new.limited ≡ budget.old.limited }
+    requires some { rest ≤ bits }
+    requires few { bits ≤ 64 }
+    ensures found { IfOk result (λ found. IfSome found (λ args. AreUnlikeAt direction bits index rest one other (slice_index args))) }
+    ensures none { IfOk result (λ found. IfNone found (AreNeverUnlike direction bits index rest one other)) }
+    ensures stopped { IfErr result (IsStopped memory.old.limited) }
+    ensures limited { memory.new.limited ≡ memory.old.limited }
 {
-    if agree_by(first, second, held, call.arch, call.nr) {
+    spend(memory, &one, &other)?;
+    if are_settled(direction, &one, &other) {
         return Ok(None);
     }
     if index == 6 {
-        spend(budget)?;
-        return Ok(at_end(first, second, direction, held, call));
+        return Ok(at_end(direction, &one, &other));
     }
-    let conds = conditions_at(alloc, held, index)?;
-    let values = cells(alloc, &conds, bits_of(call.arch))?;
-    for value in &values {
-        let next = open_with(alloc, held, index, *value)?;
-        let with = with_argument(call, index, *value);
-        if let Some(found) = walk(
-            alloc,
-            first,
-            second,
-            direction,
-            &next,
-            &with,
-            index + 1,
-            budget,
-        )? {
-            return Ok(Some(found));
-        }
+    if is_passed(&one, &other, index, rest) {
+        return unlike_at(alloc, direction, one, other, index + 1, bits, bits, memory);
     }
+    let at = Question {
+        direction,
+        bits,
+        index,
+        rest,
+    };
+    let number = number_for(at, &one, &other);
+    if is_known(memory, number, at, &one, &other) {
+        return Ok(None);
+    }
+    let place = rest - 1;
+    let these = side_with(alloc, &one.rules, one.last, index, place, 0)?;
+    let those = side_with(alloc, &other.rules, other.last, index, place, 0)?;
+    if let Some(found) = unlike_at(alloc, direction, these, those, index, place, bits, memory)? {
+        return Ok(Some(found));
+    }
+    let these = side_with(alloc, &one.rules, one.last, index, place, 1)?;
+    let those = side_with(alloc, &other.rules, other.last, index, place, 1)?;
+    if let Some(found) = unlike_at(alloc, direction, these, those, index, place, bits, memory)? {
+        return Ok(Some(with_bit(found, index, place)));
+    }
+    let known = Known {
+        direction,
+        bits,
+        index,
+        rest,
+        one,
+        other,
+    };
+    keep(memory, number, known)?;
     Ok(None)
 }

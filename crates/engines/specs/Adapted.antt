@@ -1,8 +1,8 @@
 -- What an adapted configuration gives.
 use Rattle.std.specs.Prelude.{◌≡◌, ℕ, List, Option, Some, None, true, string_bytes}
 use Rattle.serde_json.specs.Data.{Data}
-use Rattle.call_tables.specs.declared.arch.Arch.{Arch}
-use Rattle.call_tables.specs.Arch.{family_of}
+use Rattle.machines.specs.declared.arch.Arch.{Arch}
+use Rattle.machines.specs.Arch.{family_of}
 use Rattle.profile.specs.declared.rules.Rule.{Rule}
 use Rattle.profile.specs.Machines.{in_order}
 use Rattle.profile.specs.Policy.{Policy}

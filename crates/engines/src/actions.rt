@@ -19,6 +19,19 @@ const ACTIONS: &[&str] = &[
     "SCMP_ACT_ALLOW",
 ];
 
+/// All names of actions.
+pub(crate) const NAMES: &[&str] = &[
+    "SCMP_ACT_KILL_PROCESS",
+    "SCMP_ACT_KILL_THREAD",
+    "SCMP_ACT_KILL",
+    "SCMP_ACT_TRAP",
+    "SCMP_ACT_ERRNO",
+    "SCMP_ACT_NOTIFY",
+    "SCMP_ACT_TRACE",
+    "SCMP_ACT_LOG",
+    "SCMP_ACT_ALLOW",
+];
+
 // The place of an action among them.
 fn rank_of(action: &str) -> Option<usize> {
     if action == KILL_THREAD {

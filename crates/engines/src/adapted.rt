@@ -11,7 +11,7 @@ use crate::keys::READ;
 use crate::making::{Source, made};
 use crate::settings::Settings;
 use crate::words::Wanted;
-use call_tables::{Arch, Family};
+use machines::{Arch, Family};
 use profile_json::ProfileError;
 use section::{kind_of, line_of, remark_of};
 use serde_json::{Error, Value};
@@ -109,7 +109,7 @@ fn adapt_section(
     Ok(Adapted {
         told,
         draft: draft.text,
-        changes: changes.lines.whole()?,
+        changes: changes.whole()?,
     })
 }
 

@@ -4,13 +4,13 @@ use crate::changes::Changes;
 use crate::config::{Section, put_edition, tell_section_keys};
 use crate::entries::put_entries;
 use crate::keys::{is_one_of, put_member};
-use crate::machines::put_machines;
+use crate::machine_names::put_machines;
 use crate::parts::Part;
 use crate::place::Place;
 use crate::settings::Settings;
 use crate::text::Text;
 use crate::verdicts::{OF_SECTION, put_verdict, tell_verdict};
-use call_tables::Family;
+use machines::Family;
 use serde_json::Value;
 use std::alloc::{AllocError, Global};
 

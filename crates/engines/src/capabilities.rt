@@ -27,8 +27,8 @@ pub(crate) fn engine_named(word: &str) -> Option<Engine>
     }
 }
 
-// The capabilities of Linux, by their numbers.
-const CAPABILITIES: &[&str] = &[
+/// The capabilities of Linux, by their numbers.
+pub(crate) const CAPABILITIES: &[&str] = &[
     "CAP_CHOWN",
     "CAP_DAC_OVERRIDE",
     "CAP_DAC_READ_SEARCH",

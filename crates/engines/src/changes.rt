@@ -1,12 +1,15 @@
 //! What was changed, told with its place.
 use crate::place::{Place, put_place};
 use crate::text::Text;
-use std::alloc::Global;
+use std::alloc::{AllocError, Global};
 
-/// The lines of what was changed, how many of the changes widen the profile, and whether a bundle can be made at all.
+/// The lines of what was changed, those of names that are near to known ones, how many of the changes widen the profile, and whether a bundle
+/// can be made at all.
 #[derive(Drop)]
 pub(crate) struct Changes {
+    alloc: Global,
     pub(crate) lines: Text,
+    near: Text,
     pub(crate) widening: usize,
     pub(crate) is_refused: bool,
 }
@@ -14,10 +17,17 @@ pub(crate) struct Changes {
 impl Changes {
     pub(crate) fn new(alloc: Global) -> Changes {
         Changes {
+            alloc,
             lines: Text::new(alloc),
+            near: Text::new(alloc),
             widening: 0,
             is_refused: false,
         }
+    }
+
+    /// Where its texts are.
+    pub(crate) fn alloc(&self) -> Global {
+        self.alloc
     }
 
     // Begins a line with a place.
@@ -49,6 +59,20 @@ impl Changes {
         self.end(widens);
     }
 
+    /// Tells, behind all other lines, which known name may be meant by another one.
+    pub(crate) fn tell_near(&mut self, place: Place<'_>, name: &str, near: &str) {
+        put_place(&mut self.near, place);
+        self.near
+            .put(format_args!(": {name:?} is not known; nearest: {near}\n"));
+    }
+
+    /// Tells, behind all other lines, what a name is that stands for no call.
+    pub(crate) fn tell_slip(&mut self, place: Place<'_>, name: &str, why: &str) {
+        put_place(&mut self.near, place);
+        self.near
+            .put(format_args!(": {name:?} names no call: {why}\n"));
+    }
+
     /// Tells why no bundle can be made.
     pub(crate) fn refuse(&mut self, place: Place<'_>, why: &str) {
         self.is_refused = true;
@@ -64,6 +88,14 @@ impl Changes {
         self.lines.put(format_args!(
             "engines read it as {meant}, and ccell passes over it: write {meant}\n"
         ));
+    }
+
+    /// All lines, the near names last.
+    pub(crate) fn whole(self) -> Result<String, AllocError> {
+        let near = self.near.whole()?;
+        let mut lines = self.lines.whole()?;
+        lines.push_str(near.as_str())?;
+        Ok(lines)
     }
 
     /// Tells that nothing is written, since a change widens the profile.

@@ -2,10 +2,22 @@
 use crate::actions::text_at;
 use crate::changes::Changes;
 use crate::keys::{CONDITION, member_at, put_member, put_pair, tell_keys};
+use crate::near::tell_operator;
 use crate::parts::Part;
 use crate::place::Place;
 use crate::text::Text;
 use serde_json::Value;
+
+// The names of operators.
+const OPERATORS: &[&str] = &[
+    "SCMP_CMP_NE",
+    "SCMP_CMP_LT",
+    "SCMP_CMP_LE",
+    "SCMP_CMP_EQ",
+    "SCMP_CMP_GE",
+    "SCMP_CMP_GT",
+    "SCMP_CMP_MASKED_EQ",
+];
 
 // The whole number under a key of a condition.
 fn number_at(condition: &Value, key: &str) -> Option<u64> {
@@ -78,6 +90,12 @@ fn put_members(text: &mut Text, changes: &mut Changes, place: Place<'_>, conditi
 // Adds a condition behind those that the list has.
 fn put_condition(text: &mut Text, changes: &mut Changes, place: Place<'_>, condition: &Value) {
     tell_keys(changes, place, condition, CONDITION, true);
+    tell_operator(
+        changes,
+        place.key("op"),
+        text_at(condition, "op"),
+        OPERATORS,
+    );
     text.separate(", ");
     if !condition.is_object() {
         return text.put(format_args!("{condition}"));

@@ -3,7 +3,8 @@ use crate::changes::Changes;
 use crate::keys::{SECTION, is_one_of, member_at, tell_keys, tell_other_cases};
 use crate::place::Place;
 use crate::text::Text;
-use call_tables::Family;
+use machines::Family;
+use section::SECTION_KEYS;
 use serde_json::Value;
 
 /// A section, and what stands before it in a place.
@@ -45,6 +46,18 @@ pub(crate) fn section_of(config: &Value) -> Option<Section<'_>> {
     })
 }
 
+// Tells the keys of a section that stand beside `linux`: engines read the one or the other.
+fn tell_beside(changes: &mut Changes, config: &Value) {
+    for key in SECTION_KEYS {
+        if config.get(*key).is_some() {
+            changes.refuse(
+                Place::top("").key(*key),
+                "stands beside linux, and readers take either this section or that of linux",
+            );
+        }
+    }
+}
+
 /// Tells the keys of what stands above a section, and its own.
 pub(crate) fn tell_section_keys(
     changes: &mut Changes,
@@ -55,6 +68,7 @@ pub(crate) fn tell_section_keys(
     let place = Place::top(section.top);
     if section.top == "linux.seccomp." {
         tell_other_cases(changes, Place::top(""), config);
+        tell_beside(changes, config);
         if let Some(linux) = config.get("linux") {
             tell_other_cases(changes, Place::top("linux."), linux);
         }

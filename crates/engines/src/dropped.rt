@@ -4,6 +4,7 @@ use crate::changes::Changes;
 use crate::keys::is_one_of;
 use crate::parts::Part;
 use crate::place::put_place;
+use call_tables::call_name;
 use profile::Rule;
 use profile_json::EntryRules;
 use std::alloc::{AllocError, Global};
@@ -108,7 +109,7 @@ fn drop_name(
     let Some(other) = with_part(bundle, all, winner) else {
         return Ok(());
     };
-    let name = loser.0.arch.name(loser.0.nr).unwrap_or("");
+    let name = call_name(loser.0.arch, loser.0.nr).unwrap_or("");
     if dropped.contains(loser.1, name) {
         return Ok(());
     }

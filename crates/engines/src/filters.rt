@@ -1,13 +1,14 @@
 //! For which containers an entry of an engine's own profile counts.
 use crate::actions::text_at;
-use crate::capabilities::Engine;
+use crate::capabilities::{CAPABILITIES, Engine};
 use crate::changes::Changes;
 use crate::kernels::{Kernel, kernel_of};
 use crate::keys::{FILTER, is_one_of, is_void, tell_unknown};
+use crate::near::tell_listed;
 use crate::place::{Place, put_place};
 use crate::settings::Settings;
 use crate::words::Container;
-use call_tables::Arch;
+use machines::Arch;
 use serde_json::Value;
 
 // What engines call a machine.
@@ -185,6 +186,18 @@ fn tell_member(
     }
 }
 
+// Tells which capabilities of a list may be slips.
+fn tell_capabilities(changes: &mut Changes, place: Place<'_>, member: &Value) {
+    let Some(list) = member.as_array() else {
+        return;
+    };
+    for (at, name) in list.as_slice().iter().enumerate() {
+        if let Some(name) = name.as_str() {
+            tell_listed(changes, place.member(at), name, CAPABILITIES);
+        }
+    }
+}
+
 // Tells what is not read of a filter.
 fn tell_filter(changes: &mut Changes, settings: &Settings<'_>, place: Place<'_>, filter: &Value) {
     let Some(members) = filter.as_object() else {
@@ -196,6 +209,9 @@ fn tell_filter(changes: &mut Changes, settings: &Settings<'_>, place: Place<'_>,
     tell_unknown(changes, place, filter, FILTER);
     for (key, member) in members.iter() {
         tell_member(changes, settings, place, key.as_str(), member);
+        if key.as_str() == "caps" {
+            tell_capabilities(changes, place.key("caps"), member);
+        }
     }
 }
 

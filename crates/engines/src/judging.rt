@@ -4,7 +4,7 @@ ghost use Rattle.engines.specs.Adapted.{IsSettled};
 
 use crate::heads::have_same_head;
 use crate::settling::{Choice, is_settled};
-use call_tables::Arch;
+use machines::Arch;
 use profile_json::{ProfileError, read_bundle, rules_by_entry};
 use std::alloc::{AllocError, Global};
 use wording::Told;

@@ -101,10 +101,38 @@ pub(crate) fn is_one_of(names: &[&str], name: &str) -> bool {
     false
 }
 
+// A letter as readers in Go take it: in lower case, U+017F for s and U+212A for k.
+fn folded(letter: char) -> char {
+    match letter {
+        '\u{17f}' => 's',
+        '\u{212a}' => 'k',
+        other => other.to_ascii_lowercase(),
+    }
+}
+
+// Whether some reader takes a key for another one. Readers in C end it at U+0000.
+fn is_taken_for(key: &str, meant: &str) -> bool {
+    let mut letters = key.chars();
+    for letter in meant.chars() {
+        match letters.next() {
+            Some(other) => {
+                if folded(other) != letter.to_ascii_lowercase() {
+                    return false;
+                }
+            }
+            None => return false,
+        }
+    }
+    match letters.next() {
+        Some(other) => other == '\0',
+        None => true,
+    }
+}
+
 // The key as which engines read another one.
 fn meant_by(key: &str) -> Option<&'static str> {
     for meant in READ {
-        if meant.eq_ignore_ascii_case(key) {
+        if is_taken_for(key, *meant) {
             return if *meant == key { None } else { Some(*meant) };
         }
     }

@@ -10,7 +10,7 @@ use crate::judging::{nothing, settled};
 use crate::overlapping::put_sides;
 use crate::settings::Settings;
 use crate::settling::{Choice, winners};
-use call_tables::Arch;
+use machines::Arch;
 use profile_json::{ProfileError, read_bundle, rules_by_entry};
 use serde_json::Value;
 use show::{Configuration, fault_in};

@@ -2,17 +2,19 @@
 use crate::actions::text_at;
 use crate::changes::Changes;
 use crate::keys::member_at;
+use crate::near::tell_call;
 use crate::parts::Part;
 use crate::place::Place;
 use crate::settings::Settings;
 use crate::text::Text;
-use call_tables::Family;
+use call_tables::call_number;
+use machines::Family;
 use serde_json::Value;
 
 // Whether a name stands in the table of no machine of the family.
 fn is_unknown(family: Family, name: &str) -> bool {
     for arch in family.machines() {
-        if arch.number(name).is_some() {
+        if call_number(*arch, name).is_some() {
             return false;
         }
     }
@@ -48,6 +50,7 @@ fn tell_name(
     if let Some(unknown) = unknown_name(family, name) {
         let what = "is in no table, and left out";
         changes.tell_text(place, unknown, what, is_stricter);
+        tell_call(changes, place, unknown);
     }
 }
 

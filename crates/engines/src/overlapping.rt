@@ -3,7 +3,8 @@ use crate::bundle::Bundle;
 use crate::changes::Changes;
 use crate::place::{Place, put_place};
 use crate::text::Text;
-use call_tables::Arch;
+use call_tables::call_name;
+use machines::Arch;
 use profile::{Cond, Rule};
 use profile_json::{EntryRules, rules_by_entry};
 use std::alloc::Global;
@@ -11,7 +12,7 @@ use wording::{ActionText, ConditionText};
 
 // Whether a rule is for a call of this name.
 fn is_of(rule: &Rule, name: &str) -> bool {
-    rule.arch.name(rule.nr) == Some(name)
+    call_name(rule.arch, rule.nr) == Some(name)
 }
 
 // The first of these rules for a call of this name.

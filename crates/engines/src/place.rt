@@ -74,6 +74,23 @@ fn put_condition(text: &mut Text, condition: Option<usize>) {
     }
 }
 
+// Whether a character is shown as it is: no control character, and no mark of direction.
+fn is_shown(letter: char) -> bool {
+    match letter {
+        '\u{200e}' | '\u{200f}' => false,
+        '\u{202a}'..='\u{202e}' => false,
+        '\u{2066}'..='\u{2069}' => false,
+        other => !other.is_control(),
+    }
+}
+
+// Adds a text that is not ours, with a question mark for what is not shown.
+fn put_shown(text: &mut Text, shown: &str) {
+    for letter in shown.chars() {
+        text.put(if is_shown(letter) { letter } else { '?' });
+    }
+}
+
 fn put_key(text: &mut Text, place: Place<'_>) {
     if place.key == "" {
         return;
@@ -81,7 +98,7 @@ fn put_key(text: &mut Text, place: Place<'_>) {
     if place.entry.is_some() {
         text.put(".");
     }
-    text.put(place.key);
+    put_shown(text, place.key);
 }
 
 fn put_member(text: &mut Text, member: Option<usize>) {

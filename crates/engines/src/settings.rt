@@ -3,7 +3,7 @@ use crate::capabilities::Engine;
 use crate::dropped::Dropped;
 use crate::parts::Part;
 use crate::words::{Container, Wanted};
-use call_tables::{Arch, Family};
+use machines::{Arch, Family};
 
 /// The machine, the default action, what is asked, and the names that give way to those of other entries.
 #[derive(Clone, Copy)]

@@ -1,8 +1,9 @@
 //! The actions and the errors of a section and of its entries.
-use crate::actions::{KILL_THREAD, refuses, text_at};
+use crate::actions::{KILL_THREAD, NAMES, refuses, text_at};
 use crate::changes::Changes;
 use crate::errors::error_named;
 use crate::keys::{put_member, put_pair};
+use crate::near::tell_listed;
 use crate::place::Place;
 use crate::settings::Settings;
 use crate::text::Text;
@@ -97,6 +98,7 @@ pub(crate) fn tell_verdict(
     keys: VerdictKeys,
 ) {
     let action = text_at(object, keys.action);
+    tell_listed(changes, place.key(keys.action), action, NAMES);
     if is_logged(settings, action) {
         let what = "is written as SCMP_ACT_LOG";
         return changes.tell_text(place.key(keys.action), action, what, false);

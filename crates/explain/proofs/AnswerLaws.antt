@@ -7,8 +7,8 @@ use Rattle.std.proofs.lemmas.Bool.Decides.{not_from_Decides}
 use Rattle.std.proofs.lemmas.List.Elements.{All-cons, All-head, All-nil, All-tail}
 use Rattle.call_record.specs.Verdict.{action}
 use Rattle.call_record.specs.Words.{word}
-use Rattle.call_tables.specs.Arch.{token_of}
-use Rattle.call_tables.specs.Numbers.{has_call}
+use Rattle.machines.specs.Arch.{token_of}
+use Rattle.machines.specs.Numbers.{has_call}
 use Rattle.profile.specs.declared.rules.Rule.{Rule}
 use Rattle.profile.specs.declared.conditions.Cond.{Cond}
 use Rattle.profile.specs.Condition.{Meets}

@@ -1,7 +1,7 @@
 -- Which record a line of a script asks for.
 use Rattle.std.proofs.Common.{◌≡◌, ◌≤◌, ◌<◌, ℕ, List, [], ◌∷◌, true, false, Bor, ap, arith, length, refl, slice_index_or, subst, sym}
 use Rattle.std.specs.Prelude.{Option, None, Some, Result, IfOk, IfSome}
-use Rattle.call_tables.specs.declared.arch.Arch.{Arch}
+use Rattle.machines.specs.declared.arch.Arch.{Arch}
 use Rattle.call_record.specs.declared.layout.Record.{Record}
 use Rattle.script.specs.Commands.{Command, Create, Start, Delete, State, Kill, Call}
 use Rattle.script.specs.Grammar.{LineIs}

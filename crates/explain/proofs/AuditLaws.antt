@@ -7,7 +7,7 @@ use Rattle.std.proofs.lemmas.Bool.{and_parts, eq-eqb, eqb-false, eqb-true}
 use Rattle.std.proofs.lemmas.List.{nil_from_length, take_more}
 use Rattle.std.proofs.lemmas.List.Sums.{AllPass-from_list_all, list_all-from_AllPass}
 use Rattle.std.proofs.Math.Seq.{drop-cons}
-use Rattle.call_tables.specs.declared.arch.Family.{Family}
+use Rattle.machines.specs.declared.arch.Family.{Family}
 use Rattle.profile.specs.declared.rules.Rule.{Rule}
 use Rattle.profile.specs.Policy.{Policy}
 use Rattle.explain.specs.Audit.{MayBe, audit_text, count_others, event_lines, is_same, lines_behind, listed, may_be, others_line, unread_line}

@@ -2,10 +2,10 @@
 use Rattle.std.proofs.Common.{◌≡◌, ℕ, List, [], ◌++◌, refl, sym, subst, ap, append-nil, ◌∙◌}
 use Rattle.std.specs.Prelude.{Bool, true, false, Result, Ok, Err, IfOk, codes}
 use denote.Ref.{Bor}
-use Rattle.call_tables.specs.declared.arch.Arch.{Arch}
-use Rattle.call_tables.specs.declared.arch.Family.{Family}
-use Rattle.call_tables.specs.declared.arch.Family.TheVariants.{Chosen, Whole}
-use Rattle.call_tables.specs.Arch.{family_of}
+use Rattle.machines.specs.declared.arch.Arch.{Arch}
+use Rattle.machines.specs.declared.arch.Family.{Family}
+use Rattle.machines.specs.declared.arch.Family.TheVariants.{Chosen, Whole}
+use Rattle.machines.specs.Arch.{family_of}
 use Rattle.wording.specs.Told.{TellsLine}
 use Rattle.wording.specs.declared.told.Told.{Told}
 use Rattle.call_words.specs.Wrong.{TellsWrong}

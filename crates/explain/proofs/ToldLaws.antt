@@ -2,7 +2,7 @@
 use Rattle.std.proofs.Common.{ℕ, List, inl}
 use Rattle.std.specs.Prelude.{IfOk, Result, Ok, Err}
 use denote.Ref.{Bor}
-use Rattle.call_tables.specs.declared.arch.Arch.{Arch}
+use Rattle.machines.specs.declared.arch.Arch.{Arch}
 use Rattle.call_record.specs.declared.layout.Record.{Record}
 use Rattle.call_words.specs.Wrong.{TellsWrong}
 use Rattle.explain.specs.Asked.{IsAsked, IsCall}

@@ -1,7 +1,7 @@
 -- Which call the line of a word asks for.
 use Rattle.std.proofs.Common.{◌≡◌, ℕ, List, ◌++◌, subst, sym}
 use Rattle.std.specs.Prelude.{Option, None, Some, IfSome, codes}
-use Rattle.call_tables.specs.declared.arch.Arch.{Arch}
+use Rattle.machines.specs.declared.arch.Arch.{Arch}
 use Rattle.explain.specs.Any.{IsWhat}
 use Rattle.explain.specs.inner.Found.{call_of}
 use Rattle.script.specs.Commands.{Command, Create, Start, Delete, State, Kill, Call}

@@ -3,7 +3,7 @@ use Rattle.std.specs.Prelude.{ℕ, ◌≡◌, ◌≢◌, ◌==◌, ◌&&◌, ◌
 use Rattle.std.specs.List.{list_any}
 use Rattle.call_record.specs.Verdict.{action, kill_thread}
 use Rattle.call_record.specs.Words.{word}
-use Rattle.call_tables.specs.Numbers.{has_call}
+use Rattle.machines.specs.Numbers.{has_call}
 use Rattle.profile.specs.declared.rules.Rule.{Rule}
 use Rattle.profile.specs.Policy.{Policy, Says}
 use Rattle.explain.specs.Any.{is_of}

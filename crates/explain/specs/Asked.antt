@@ -7,8 +7,8 @@ use denote.Ref.{Bor}
 use Rattle.hex.specs.Hex.{decode_sized}
 use Rattle.texts.specs.Lines.{space}
 use Rattle.call_words.specs.Constants.{numeral}
-use Rattle.call_tables.specs.declared.arch.Arch.{Arch}
-use Rattle.call_tables.specs.Arch.{token_of}
+use Rattle.machines.specs.declared.arch.Arch.{Arch}
+use Rattle.machines.specs.Arch.{token_of}
 use Rattle.call_record.specs.declared.layout.Record.{Record}
 use Rattle.call_record.specs.Record.{words}
 use Rattle.call_record.specs.Words.{words_of}

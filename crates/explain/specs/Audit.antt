@@ -9,10 +9,11 @@ use Rattle.texts.specs.Lines.{line_feed, space}
 use Rattle.texts.specs.Numbers.{decimal_at, hexadecimal_at}
 use Rattle.texts.specs.Splits.{behind, split_at}
 use Rattle.call_record.specs.Verdict.{action, allow, errno, kill_process, kill_thread, log, trace, trap, user_notif}
-use Rattle.call_tables.specs.declared.arch.Arch.{Arch}
-use Rattle.call_tables.specs.declared.arch.Arch.TheVariants.{LinuxX86_64, LinuxX86, LinuxAarch64, LinuxArm, LinuxRiscv64, LinuxPpc64le}
-use Rattle.call_tables.specs.declared.arch.Family.{Family}
-use Rattle.call_tables.specs.Arch.{family_of, table_of, token_of}
+use Rattle.machines.specs.declared.arch.Arch.{Arch}
+use Rattle.machines.specs.declared.arch.Arch.TheVariants.{LinuxX86_64, LinuxX86, LinuxAarch64, LinuxArm, LinuxRiscv64, LinuxPpc64le}
+use Rattle.machines.specs.declared.arch.Family.{Family}
+use Rattle.machines.specs.Arch.{family_of, token_of}
+use Rattle.call_tables.specs.Tables.{table_of}
 use Rattle.call_tables.specs.Table.{Table, number_in}
 use Rattle.profile.specs.declared.rules.Rule.{Rule}
 use Rattle.profile.specs.Policy.{Policy}
@@ -23,6 +24,8 @@ use Rattle.wording.specs.Understood.{IsReadAs}
 use Rattle.wording.specs.declared.told.Told.{Told}
 use Rattle.explain.specs.Answers.{may_answer}
 use Rattle.explain.specs.Any.{said_lines}
+use Rattle.explain.specs.Signs.{is_doubled, is_marked, signs_of}
+use Rattle.explain.specs.declared.audited.signs.Signs.{Signs}
 use Rattle.explain.specs.declared.audited.event.Answer.{Answer}
 use Rattle.explain.specs.declared.audited.event.Answer.TheVariants.{Code, Kill}
 use Rattle.explain.specs.declared.audited.event.Event.{Event}
@@ -155,11 +158,15 @@ action_named word =
     else if bytes_eq word (codes "allow") then Some (Code allow)
     else None
 
+-- a kernel writes the action alone, without data
+abbrev pub bare_code : ℕ → Option Answer
+bare_code code = if action code == code then Some (Code code) else None
+
 unfoldable pub written_code : List ℕ → Option Answer
 written_code text = do
   digits ← behind (codes "0x") text
   code ← hexadecimal_of digits
-  Some (Code code)
+  bare_code code
 
 -- what the filter answered
 unfoldable pub answer_in : List ℕ → Option Answer
@@ -182,17 +189,28 @@ event_of arch call code = do
   answer ← answer_in code
   Some (record { token = token; nr = nr; answer = answer })
 
--- the event that a line tells, if it tells one
-unfoldable pub event_in : List ℕ → Option Event
-event_in line = do
+-- the event that the fields of a line tell
+unfoldable pub event_by : List ℕ → Option Event
+event_by line = do
   arch ← text_on (codes "arch=") line
   call ← text_on (codes "syscall=") line
   code ← text_on (codes "code=") line
   event_of arch call code
 
--- it has the fields, and tells none
+abbrev pub signs_on : List ℕ → Signs
+signs_on line = signs_of (words_on line)
+
+-- the event that a line tells, if it tells one: a line with two records tells none
+unfoldable pub event_in : List ℕ → Option Event
+event_in line = if is_doubled (signs_on line) then None else event_by line
+
+-- it is a filter's record, whole or cut
+abbrev pub is_record : List ℕ → Bool
+is_record line = is_marked (signs_on line) || has_fields line
+
+-- it is one that tells no event, or it tells that records were lost
 unfoldable pub is_unread : List ℕ → Bool
-is_unread line = has_fields line && is_none (event_in line)
+is_unread line = (signs_on line).lost || (is_record line && is_none (event_in line))
 
 -- the events that the lines of a text tell, in order
 abbrev pub events_in : List ℕ → List Event

@@ -1,9 +1,9 @@
 pub mod Explanation
-pub mod Explainer
 pub mod Asked
 pub mod Refused
 pub mod Told
 pub mod Any
 pub mod Answers
+pub mod Signs
 pub mod Audit
 pub mod inner

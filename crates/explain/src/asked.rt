@@ -9,9 +9,9 @@ ghost use Rattle.explain.specs.Asked as spec;
 ghost use Rattle.explain.specs.inner.Found.{IsRecordIn};
 
 use call_record::Record;
-use call_tables::Arch;
 use call_words::sum;
 use hex::FromHex;
+use machines::Arch;
 use script::{Request, one_command, read_line};
 use std::alloc::{AllocError, Global};
 use std::fmt::Write;

@@ -7,6 +7,7 @@ mod events;
 mod fields;
 mod lines;
 mod named;
+mod signs;
 mod what;
 
 pub(crate) use answers::what_may_not_never_does;

@@ -9,5 +9,5 @@ mod telling;
 mod told;
 
 pub use audited::{audit, explain_any};
-pub use telling::{Explainer, explanation};
+pub use telling::explanation;
 pub use told::{assembled, explain, record, version};

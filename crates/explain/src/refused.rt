@@ -1,13 +1,13 @@
 //! How words are refused that ask for no call.
 ghost use Rattle.std.specs.Prelude.{◌≡◌, ◌++◌, [], ℕ, List, IfOk, codes, string_bytes};
-ghost use Rattle.call_tables.specs.Arch.{family_of};
+ghost use Rattle.machines.specs.Arch.{family_of};
 ghost use Rattle.call_words.specs.Wrong as wrong;
 ghost use Rattle.wording.specs.Told.{TellsLine};
 ghost use Rattle.explain.specs.Refused as spec;
 
 use crate::asked::are_bytes;
-use call_tables::{Arch, Family};
 use call_words::{put_wrong, put_wrong_call};
+use machines::{Arch, Family};
 use std::alloc::{AllocError, Global};
 use wording::Told;
 

@@ -1,13 +1,13 @@
 //! The rules for a call, told beside a record.
 ghost use Rattle.std.specs.Prelude.{◌≡◌, ◌++◌, [], if◌then◌else◌, IfOk, slice_index, string_bytes};
 ghost use Rattle.std.specs.List.{flat_map};
-ghost use Rattle.call_tables.specs.Width as width;
+ghost use Rattle.machines.specs.Width as width;
 ghost use Rattle.profile.specs.Said.{meets};
 ghost use Rattle.explain.specs.Explanation as spec;
 ghost use Rattle.wording.specs.Reason.{entry_at};
 
 use call_record::Record;
-use call_tables::compared;
+use machines::compared;
 use profile::{Cond, Rule};
 use profile_json::EntryRules;
 use std::alloc::AllocError;

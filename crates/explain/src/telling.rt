@@ -1,7 +1,7 @@
 //! What a bundle says of a call record, and why.
 ghost use Rattle.std.specs.Prelude.{◌≡◌, ◌++◌, ℕ, IfErr, IfOk, IfSome, string_bytes};
 ghost use Rattle.call_record.specs.Record.{words};
-ghost use Rattle.call_tables.specs.Arch.{family_of};
+ghost use Rattle.machines.specs.Arch.{family_of};
 ghost use Rattle.profile.specs.Policy.{Says};
 ghost use Rattle.explain.specs.Explanation as spec;
 ghost use Rattle.wording.specs.Reason.{reason_of};
@@ -11,9 +11,9 @@ ghost use Rattle.profile_json.specs.Fault.{fault_of};
 
 use crate::rules::put_rules;
 use call_record::{Record, Word};
-use call_tables::{Arch, Family};
+use machines::{Arch, Family};
 use profile::Profile;
-use profile_json::{EntryRules, ProfileError, read_bundle, rules_by_entry};
+use profile_json::{Document, EntryRules, ProfileError};
 use std::alloc::{AllocError, Global};
 use std::fmt::Write;
 use wording::{ActionText, Reason, put_record, reason_of};
@@ -74,59 +74,24 @@ fn explained(
     Ok(text)
 }
 
-/// A bundle that was read for a native machine, to explain what it says of call records.
-#[derive(Drop)]
-pub struct Explainer {
-    native: Arch,
-    profile: Profile,
-    all: EntryRules,
-}
-
-impl Explainer {
-    ghost use Rattle.std.specs.Prelude.{ℕ, List, IfErr, IfOk, IfSome, string_bytes};
-    ghost use Rattle.call_tables.specs.declared.arch.Arch.{Arch as TheArch};
-    ghost use Rattle.explain.specs.Explainer.{Reads};
-    ghost use Rattle.explain.specs.Explanation.{Explains};
-    ghost use Rattle.profile_json.specs.Breaks.{Breaks};
-    ghost use Rattle.profile_json.specs.Fault.{fault_of};
-
-    /// Reads a bundle.
-    pub fn new(alloc: Global, native: Arch, bundle: &[u8]) -> Result<Explainer, ProfileError>
-        ensures reads { IfOk result (Reads native bundle.now) }
-        // Unless memory ran out, the fault stands in the bundle.
-        ensures fault { IfErr result (λ e. IfSome (fault_of e) (Breaks bundle.now native)) }
-    {
-        let read = read_bundle(alloc, bundle, native)?;
-        let all = rules_by_entry(alloc, bundle, native)?;
-        Ok(Explainer {
-            native,
-            profile: read.profile,
-            all,
-        })
-    }
-
-    /// The text that explains what the bundle says of a call record: the call, the verdict, and why it is said. Of each rule for that call
-    /// it tells whether it matches, and which of its conditions hold.
-    pub fn explanation(&self, alloc: Global, call: &Record) -> Result<String, AllocError>
-        ensures { (native : TheArch) (bundle : List ℕ) → Reads native bundle self.now
-            → IfOk result (λ text. Explains native bundle call.now (string_bytes text)) }
-    {
-        let text = explained(alloc, self.native, &self.profile, &self.all, call)?;
-        Ok(text)
-    }
-}
-
-/// The text that explains what a bundle, which is read for a native machine, says of a call record.
+/// The text that explains what a bundle says of a call record: the call, the verdict, and why it is said. Of each rule for that call it
+/// tells whether it matches, and which of its conditions hold.
 pub fn explanation(
     alloc: Global,
-    native: Arch,
-    bundle: &[u8],
+    document: &Document,
     call: &Record,
 ) -> Result<String, ProfileError>
-    ensures explains { IfOk result (λ text. spec.Explains native bundle.now call.now (string_bytes text)) }
+    ensures explains { IfOk result (λ text. spec.Explains document.now.native document.now.bytes call.now (string_bytes text)) }
     // Unless memory ran out, the fault stands in the bundle.
-    ensures fault { IfErr result (λ e. IfSome (fault_of e) (Breaks bundle.now native)) }
+    ensures fault { IfErr result (λ e. IfSome (fault_of e) (Breaks document.now.bytes document.now.native)) }
 {
-    let read = Explainer::new(alloc, native, bundle)?;
-    Ok(read.explanation(alloc, call)?)
+    let read = document.bundle()?;
+    let text = explained(
+        alloc,
+        document.native(),
+        &read.profile,
+        &read.by_entry,
+        call,
+    )?;
+    Ok(text)
 }

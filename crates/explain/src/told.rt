@@ -12,7 +12,8 @@ use crate::refused::{refused_call, refused_words};
 use crate::telling::explanation;
 use bpf_asm::{AsmError, assemble};
 use call_record::Record;
-use call_tables::Arch;
+use machines::Arch;
+use profile_json::Document;
 use std::alloc::{AllocError, Global};
 use wording::{Told, refused_profile};
 
@@ -42,20 +43,15 @@ fn refused_listing(alloc: Global, error: AsmError) -> Result<Told, AllocError>
     })
 }
 
-/// Explains what a bundle, which is read for a native machine, says of the call record that command line arguments ask for,
-/// and why.
-pub fn explain(
-    alloc: Global,
-    native: Arch,
-    bundle: &[u8],
-    arguments: &[&str],
-) -> Result<Told, AllocError>
-    ensures { IfOk result (spec.IsExplained native bundle.now arguments.now) }
+/// Explains what a bundle says of the call record that command line arguments ask for, and why.
+pub fn explain(alloc: Global, document: &Document, arguments: &[&str]) -> Result<Told, AllocError>
+    ensures { IfOk result (spec.IsExplained document.now.native document.now.bytes arguments.now) }
 {
+    let native = document.native();
     let Some(call) = call_in(alloc, native, arguments)? else {
         return refused_call(alloc, native, arguments);
     };
-    match explanation(alloc, native, bundle, &call) {
+    match explanation(alloc, document, &call) {
         Ok(text) => Ok(Told {
             bytes: text.into_bytes(),
             done: true,

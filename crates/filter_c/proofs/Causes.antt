@@ -5,10 +5,10 @@ use Rattle.std.specs.Prelude.{if◌then◌else◌}
 use Rattle.std.specs.List.{Contains, slice_get}
 use Rattle.std.proofs.lemmas.List.{length-map}
 use Rattle.std.proofs.lemmas.Option.{same_Some}
-use Rattle.call_tables.specs.declared.arch.Arch.{Arch}
-use Rattle.call_tables.specs.declared.arch.Arch.TheVariants.{LinuxX86_64, LinuxX86, LinuxX32, LinuxAarch64, LinuxArm, LinuxRiscv64, LinuxPpc64le, LinuxLoongarch64}
-use Rattle.call_tables.specs.declared.arch.Family.TheVariants.{Whole}
-use Rattle.call_tables.specs.Arch.{AreOfFamily, family_of}
+use Rattle.machines.specs.declared.arch.Arch.{Arch}
+use Rattle.machines.specs.declared.arch.Arch.TheVariants.{LinuxX86_64, LinuxX86, LinuxX32, LinuxAarch64, LinuxArm, LinuxRiscv64, LinuxPpc64le, LinuxLoongarch64}
+use Rattle.machines.specs.declared.arch.Family.TheVariants.{Whole}
+use Rattle.machines.specs.Arch.{AreOfFamily, family_of}
 use Rattle.profile.specs.declared.fault.BuildError.TheVariants as build
 use Rattle.profile.specs.declared.rules.Rule.{Rule}
 use Rattle.profile.specs.Build.{IsFirstCause, KeepsOnce}

@@ -4,8 +4,8 @@ use Rattle.std.specs.List.{Any, Contains}
 use Rattle.std.proofs.lemmas.Option.{same_Some}
 use Rattle.std.proofs.lemmas.List.Elements.{All-contains}
 use Rattle.call_record.specs.Words.{word}
-use Rattle.call_tables.specs.declared.arch.Arch.{Arch}
-use Rattle.call_tables.specs.Numbers.{HasCall}
+use Rattle.machines.specs.declared.arch.Arch.{Arch}
+use Rattle.machines.specs.Numbers.{HasCall}
 use Rattle.profile.specs.declared.rules.Rule.{Rule}
 use Rattle.profile.specs.Build.{IsBuiltOf}
 use Rattle.profile.specs.Policy.{IsNative, Policy, Says}

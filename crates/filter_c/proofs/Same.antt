@@ -4,8 +4,8 @@ use Rattle.std.specs.List.{All}
 use Rattle.std.proofs.lemmas.Option.{same_Some}
 use Rattle.std.proofs.lemmas.List.Elements.{All-map, All-weaker}
 use Rattle.call_record.specs.Words.{word}
-use Rattle.call_tables.specs.declared.arch.Arch.{Arch}
-use Rattle.call_tables.specs.Arch.{token_of}
+use Rattle.machines.specs.declared.arch.Arch.{Arch}
+use Rattle.machines.specs.Arch.{token_of}
 use Rattle.profile.specs.declared.conditions.Cond.{Cond}
 use Rattle.profile.specs.declared.conditions.Op.{Op}
 use Rattle.profile.specs.declared.rules.Rule.{Rule}

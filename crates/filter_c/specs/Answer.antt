@@ -1,6 +1,6 @@
 -- What a program in C is told of a bundle, of a filter and of a certificate.
 use Rattle.std.specs.Prelude.{ℕ, ◌≡◌, ◌⊎◌, false, List}
-use Rattle.call_tables.specs.declared.arch.Arch.{Arch}
+use Rattle.machines.specs.declared.arch.Arch.{Arch}
 use Rattle.cert_check.specs.declared.checked.Checked.{Checked}
 use Rattle.export.specs.Forms.{bytes_in}
 use Rattle.export.specs.declared.form.Form.TheVariants.{Raw}

@@ -1,7 +1,7 @@
 -- Names and numbers of calls, of machines by the numbers of seccomp_arch_add(3).
 use Rattle.std.specs.Prelude.{ℕ, ◌≡◌, List, Some, None}
-use Rattle.call_tables.specs.declared.arch.Arch.{Arch}
-use Rattle.call_tables.specs.Arch.{table_of}
+use Rattle.machines.specs.declared.arch.Arch.{Arch}
+use Rattle.call_tables.specs.Tables.{table_of}
 use Rattle.call_tables.specs.Table.{name_in, number_in}
 use Rattle.filter_c.specs.Machine.{machine_with}
 

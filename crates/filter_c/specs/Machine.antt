@@ -1,8 +1,8 @@
 -- Machines by the numbers of seccomp_arch_add(3): the token of <linux/audit.h>, and for x32 one of its own.
 use Rattle.std.specs.Prelude.{ℕ, ◌≡◌, ◌==◌, Option, Some, None, if◌then◌else◌}
-use Rattle.call_tables.specs.declared.arch.Arch.{Arch}
-use Rattle.call_tables.specs.declared.arch.Arch.TheVariants.{LinuxX86_64, LinuxX86, LinuxX32, LinuxAarch64}
-use Rattle.call_tables.specs.declared.arch.Arch.TheVariants.{LinuxArm, LinuxRiscv64, LinuxPpc64le, LinuxLoongarch64}
+use Rattle.machines.specs.declared.arch.Arch.{Arch}
+use Rattle.machines.specs.declared.arch.Arch.TheVariants.{LinuxX86_64, LinuxX86, LinuxX32, LinuxAarch64}
+use Rattle.machines.specs.declared.arch.Arch.TheVariants.{LinuxArm, LinuxRiscv64, LinuxPpc64le, LinuxLoongarch64}
 
 abbrev pub machine_with : ℕ → Option Arch
 machine_with n =

@@ -1,6 +1,6 @@
 -- What rules and conditions consist of, those that were added and those of a profile alike.
 use Rattle.std.specs.Prelude.{ℕ, ◌==◌, List, map, take, Option, Some, None, if◌then◌else◌}
-use Rattle.call_tables.specs.declared.arch.Arch.{Arch}
+use Rattle.machines.specs.declared.arch.Arch.{Arch}
 use Rattle.profile.specs.declared.conditions.Op.{Op}
 use Rattle.profile.specs.declared.conditions.Op.TheVariants.{Ne, Lt, Le, Eq, Ge, Gt, MaskedEq}
 use Rattle.profile.specs.declared.conditions.Cond.{Cond}

@@ -10,8 +10,8 @@ ghost use Rattle.filter_c.specs.Answer.{IsCertifiedAs, IsExportOf, IsFilterOf, I
 use crate::added::machine_with;
 use crate::answers::written;
 use crate::status::{DONE, NO_MEMORY, NO_NATIVE, NO_ROOM, REFUSED};
-use call_tables::Arch;
 use export::Form;
+use machines::Arch;
 use maker::{certify_bundle, check_line, export_bundle};
 use std::alloc::Global;
 use texts::ToWrite;

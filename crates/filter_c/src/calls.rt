@@ -8,6 +8,7 @@ ghost use Rattle.filter_c.specs.Calls.{HasNumber, HasNoNumber, HasName, HasNoNam
 use crate::added::machine_with;
 use crate::answers::written;
 use crate::status::{DONE, NO_CALL, NO_NATIVE, NO_ROOM, NO_TEXT};
+use call_tables::{call_name, call_number};
 
 /// Writes the number of a machine's call into `number`, and returns 0. Returns 15 if the machine has no such call.
 /// Returns 4 if there is no such machine, and 16 if the name is no UTF-8.
@@ -26,7 +27,7 @@ pub extern "C" fn ccell_call_number(machine: u32, name: &[u8], number: &mut u32)
     let Ok(text) = std::str::from_utf8(name) else {
         return NO_TEXT;
     };
-    match arch.number(text) {
+    match call_number(arch, text) {
         Some(found) => {
             *number = found;
             DONE
@@ -55,7 +56,7 @@ pub extern "C" fn ccell_call_name(
     let Some(arch) = machine_with(machine) else {
         return NO_NATIVE;
     };
-    let Some(name) = arch.name(number) else {
+    let Some(name) = call_name(arch, number) else {
         return NO_CALL;
     };
     if written(name.as_bytes(), out, count) {

@@ -149,6 +149,9 @@ refused_profile refused profile {number} {fault}
 
 const OPEN: &str = "open open {call} of {machine}: {by}
 undecided undecided TooLarge {call} of {machine}
+open_calls open: {calls}
+refused_calls refused: {calls}
+undecided_calls undecided: {calls}
 ";
 
 /// The commands whose answers are told as JSON lines.

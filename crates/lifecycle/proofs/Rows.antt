@@ -1,8 +1,8 @@
 -- Runs of two containers, each as an equation that is computed.
 use Rattle.std.proofs.Common.{◌≡◌, ℕ, List, [], ◌∷◌, Option, Some, None, refl}
 use Rattle.std.specs.Prelude.{codes}
-use Rattle.call_tables.specs.declared.arch.Arch.TheVariants.{X86_64, Aarch64}
-use Rattle.call_tables.specs.Machines.{x86_64_table, aarch64_table}
+use Rattle.machines.specs.declared.arch.Arch.TheVariants.{X86_64, Aarch64}
+use Rattle.call_tables.specs.Tables.{x86_64_table, aarch64_table}
 use Rattle.call_record.specs.Verdict.{strictest_of}
 use Rattle.bpf_insn.specs.Code.{operation_of}
 use Rattle.processes.specs.Attached.{beside_of, is_accepted, nothing_beside}

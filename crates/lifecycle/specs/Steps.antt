@@ -1,7 +1,7 @@
 -- What each command does to the container that it names, and what it is answered (OCI Runtime Specification, Runtime and
 -- Lifecycle, Operations).
 use Rattle.std.specs.Prelude.{ℕ, List, [], ◌∷◌, Option, None, Some, if◌then◌else◌, nat_lt}
-use Rattle.call_tables.specs.declared.arch.Arch.{Arch}
+use Rattle.machines.specs.declared.arch.Arch.{Arch}
 use Rattle.call_record.specs.declared.layout.Record.{Record}
 use Rattle.cert_check.specs.declared.checked.Checked.{Checked}
 use Rattle.cert_check.specs.Checked.{profile_of}

@@ -12,8 +12,9 @@ ghost use Rattle.lifecycle.specs.Steps.{first_call, left_after, start_reply};
 use crate::command::Reply;
 use crate::fault::Refusal;
 use call_record::Record;
-use call_tables::Arch;
+use call_tables::call_number;
 use cert_check::Checked;
+use machines::Arch;
 use processes::{Id, Kernel, Outcome};
 use std::alloc::AllocError;
 
@@ -71,7 +72,7 @@ fn execve_record(native: Arch) -> Record
     ensures { result ≡ execve_of native }
 {
     Record {
-        nr: native.number("execve").unwrap_or(0),
+        nr: call_number(native, "execve").unwrap_or(0),
         arch: native.token(),
         ip: 0,
         args: [0; 6],

@@ -3,7 +3,7 @@ use Rattle.std.proofs.Common.{◌≡◌, ◌<◌, ◌++◌, append_assoc, ℕ, l
 use Rattle.std.specs.Global.{Vec}
 use Rattle.std.specs.Prelude.{[], IfOk, IfSome, slice_index, string_bytes, Option, Some, None, Result, Ok, Err, ◌≢◌}
 use Rattle.std.proofs.lemmas.Option.{same_Some}
-use Rattle.call_tables.specs.declared.arch.Arch.{Arch}
+use Rattle.machines.specs.declared.arch.Arch.{Arch}
 use Rattle.call_record.specs.Words.{IsRecord, words_of}
 use Rattle.bpf_insn.specs.declared.instruction.Insn.{Insn}
 use Rattle.bpf_insn.specs.Bytes.{insns_of, view_fault}

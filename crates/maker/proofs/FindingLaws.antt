@@ -3,7 +3,7 @@ use Rattle.std.proofs.Common.{◌≡◌, ℕ, List, refl, sym, subst, ◌∙◌}
 use Rattle.std.specs.Prelude.{IfSome, ◌≢◌}
 use Rattle.std.proofs.lemmas.Option.{same_Some}
 use Rattle.serde_json.specs.Data.{Data}
-use Rattle.call_tables.specs.declared.arch.Arch.{Arch}
+use Rattle.machines.specs.declared.arch.Arch.{Arch}
 use Rattle.cert_check.specs.Certified.{Kept}
 use Rattle.profile.specs.Policy.{Policy}
 use Rattle.profile_json.specs.declared.fault.ProfileError.{ProfileError}

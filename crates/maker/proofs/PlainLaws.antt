@@ -4,7 +4,7 @@ use Rattle.std.specs.Prelude.{◌≢◌, Option, None, Result, Ok, Err, IfErr, I
 use Rattle.std.specs.Result.{IsErrAnd}
 use Rattle.bpf_insn.specs.declared.instruction.Insn.{Insn}
 use Rattle.bpf_insn.specs.Bytes.{insns_of, max_insns, view_fault}
-use Rattle.call_tables.specs.declared.arch.Arch.{Arch}
+use Rattle.machines.specs.declared.arch.Arch.{Arch}
 use Rattle.profile.specs.Policy.{IsClear, Policy}
 use Rattle.profile_json.proofs.unbroken.Unbroken.{meaning_is_one, meaning_is_unbroken}
 use Rattle.rule_compile.specs.declared.fault.CompileError.{CompileError}

@@ -5,13 +5,14 @@ use Rattle.std.specs.Prelude.{Any, Contains, Some, nat_lt}
 use Rattle.std.proofs.lemmas.Bool.{and_parts, leb-true}
 use Rattle.std.proofs.lemmas.Bool.Decides.{eqb_tells}
 use Rattle.std.proofs.lemmas.List.Elements.{All-contains_itself, All-weaker}
-use Rattle.call_tables.specs.declared.arch.Arch.{Arch}
-use Rattle.call_tables.specs.declared.arch.Arch.TheVariants.{X86_64, Aarch64, LinuxX86_64, LinuxX86, LinuxX32, LinuxAarch64, LinuxArm, LinuxRiscv64, LinuxPpc64le, LinuxLoongarch64, LinuxS390x, LinuxS390}
-use Rattle.call_tables.specs.declared.numbers.Numbers.{Numbers}
-use Rattle.call_tables.specs.Arch.{table_of, token_of}
-use Rattle.call_tables.specs.Machines.{first_rows, second_rows, third_rows, fourth_rows, x86_64_table, aarch64_table}
-use Rattle.call_tables.specs.Machines.{linux_x86_64_table, linux_x86_table, linux_aarch64_table, linux_riscv64_table, linux_ppc64le_table, linux_loongarch64_table, linux_s390x_table, linux_s390_table}
-use Rattle.call_tables.specs.Numbers.{from_to, HasCall, IsOwn, IsWithin}
+use Rattle.machines.specs.declared.arch.Arch.{Arch}
+use Rattle.machines.specs.declared.arch.Arch.TheVariants.{X86_64, Aarch64, LinuxX86_64, LinuxX86, LinuxX32, LinuxAarch64, LinuxArm, LinuxRiscv64, LinuxPpc64le, LinuxLoongarch64, LinuxS390x, LinuxS390}
+use Rattle.machines.specs.declared.numbers.Numbers.{Numbers}
+use Rattle.machines.specs.Arch.{token_of}
+use Rattle.call_tables.specs.Tables.{table_of}
+use Rattle.call_tables.specs.Tables.{first_rows, second_rows, third_rows, fourth_rows, x86_64_table, aarch64_table}
+use Rattle.call_tables.specs.Tables.{linux_x86_64_table, linux_x86_table, linux_aarch64_table, linux_riscv64_table, linux_ppc64le_table, linux_loongarch64_table, linux_s390x_table, linux_s390_table}
+use Rattle.machines.specs.Numbers.{from_to, HasCall, IsOwn, IsWithin}
 use Rattle.call_tables.specs.Table.{Table, name_in}
 use Rattle.profile.specs.declared.rules.Rule.{Rule}
 use Rattle.rule_compile.specs.Shape.{AreSmallNative, IsPlainRule, above_all_numbers}

@@ -3,7 +3,7 @@
 use Rattle.std.specs.Prelude.{ℕ, ◌≡◌, ◌≢◌, ◌<◌, ◌⊎◌, Bool, true, false, List, [], ◌∷◌, ◌++◌, length, slice_index}
 use Rattle.std.specs.Prelude.{Option, None, Result, Ok, Err, IfOk, codes}
 use Rattle.hex.specs.Hex.{encode_lower}
-use Rattle.call_tables.specs.declared.arch.Arch.{Arch}
+use Rattle.machines.specs.declared.arch.Arch.{Arch}
 use Rattle.call_record.specs.Text as verdict
 use Rattle.call_record.specs.Words.{IsRecord, words_of}
 use Rattle.bpf_insn.specs.Bytes.{insns_of, view_fault}

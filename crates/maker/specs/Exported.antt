@@ -1,6 +1,6 @@
 -- What is exported of a bundle.
 use Rattle.std.specs.Prelude.{ℕ, ◌≡◌, ◌≢◌, ◌⊎◌, Bool, true, false, List, [], ◌∷◌, ◌++◌, Option, Result, Err, IfOk, IfSome, codes}
-use Rattle.call_tables.specs.declared.arch.Arch.{Arch}
+use Rattle.machines.specs.declared.arch.Arch.{Arch}
 use Rattle.bpf_insn.specs.Bytes.{insns_of}
 use Rattle.profile.specs.Policy.{Policy}
 use Rattle.profile_json.specs.declared.fault.ProfileError.TheVariants as refusal

@@ -1,9 +1,9 @@
 -- Bundles of which a filter and a certificate are made, whatever their rules say.
 use Rattle.std.specs.Prelude.{◌≡◌, ◌≤◌, ℕ, List, []}
 use Rattle.std.specs.List.{All}
-use Rattle.call_tables.specs.declared.arch.Arch.{Arch}
-use Rattle.call_tables.specs.declared.arch.Family.TheVariants.{Chosen}
-use Rattle.call_tables.specs.Arch.{family_of}
+use Rattle.machines.specs.declared.arch.Arch.{Arch}
+use Rattle.machines.specs.declared.arch.Family.TheVariants.{Chosen}
+use Rattle.machines.specs.Arch.{family_of}
 use Rattle.profile.specs.declared.rules.Rule.{Rule}
 use Rattle.profile.specs.Policy.{Policy}
 use Rattle.rule_compile.specs.Shape.{IsPlain, tokens}

@@ -3,7 +3,7 @@ ghost use Rattle.std.specs.Prelude.{◌≡◌, ◌<◌, ℕ, List, Ok, IfOk, len
 ghost use Rattle.call_record.specs.Record.{words};
 ghost use Rattle.bpf_insn.specs.Bytes.{insns_of};
 ghost use Rattle.kernel_check.specs.Lent.{accepted_insns};
-ghost use Rattle.call_tables.specs.declared.arch.Arch.{Arch as TheArch};
+ghost use Rattle.machines.specs.declared.arch.Arch.{Arch as TheArch};
 ghost use Rattle.maker.specs.declared.evidence.evidence.Conviction.{Conviction as TheConviction};
 ghost use Rattle.maker.specs.declared.evidence.evidence.Evidence.TheVariants.{Convicting};
 ghost use Rattle.maker.specs.evidence.Conviction.{IsCertificate};
@@ -17,11 +17,11 @@ use crate::evidence::{Conviction, Evidence, judge};
 use crate::unready::{Unready, refuse};
 use bpf_insn::Program;
 use call_record::{Word, words_are_a_record};
-use call_tables::Arch;
 use cert_check::CheckError;
 use kernel_check::{Accepted, accept};
+use machines::Arch;
 use profile::Profile;
-use profile_json::read_bundle;
+use profile_json::{Document, read_bundle};
 use std::alloc::{AllocError, Global};
 use texts::{Sink, WriteFault, write_all};
 
@@ -97,21 +97,32 @@ pub fn judge_filter(alloc: Global, profile: &Profile, filter: &[u8]) -> Result<E
     }
 }
 
-/// The evidence on a filter, beside a bundle that is read for a native machine. It is a certificate that the filter answers what the bundle
-/// says, to which the checker says yes. Or it is a call record on which the filter gives another verdict. Or else the reason is returned
-/// why there is neither. For a filter that compares steadily this is only that the format has no room.
-pub fn judge_bundle(
+// The evidence on a filter, beside the text of a bundle.
+fn judge_text(
     alloc: Global,
     native: Arch,
     bundle: &[u8],
     filter: &[u8],
 ) -> Result<Evidence, Unready>
     ensures found { IsJudgement native bundle.now filter.now result }
-    // Take a bundle that means a plain profile, and a filter as the compiler makes it of such. There is a certificate, unless memory is
-    // refused.
     ensures own { (policy : Policy) → IsOwnFilter native bundle.now filter.now policy → IsOwnJudgement result }
 {
     match read_bundle(alloc, bundle, native) {
+        Ok(bundle) => judge_filter(alloc, &bundle.profile, filter),
+        Err(error) => Err(Unready::from(error)),
+    }
+}
+
+/// The evidence on a filter, beside a bundle. It is a certificate that the filter answers what the bundle says, to which the checker says
+/// yes. Or it is a call record on which the filter gives another verdict. Or else the reason is returned why there is neither. For a filter
+/// that compares steadily this is only that the format has no room.
+pub fn judge_bundle(alloc: Global, document: &Document, filter: &[u8]) -> Result<Evidence, Unready>
+    ensures found { IsJudgement document.now.native document.now.bytes filter.now result }
+    // Take a bundle that means a plain profile, and a filter as the compiler makes it of such. There is a certificate, unless memory is
+    // refused.
+    ensures own { (policy : Policy) → IsOwnFilter document.now.native document.now.bytes filter.now policy → IsOwnJudgement result }
+{
+    match document.bundle() {
         Ok(bundle) => judge_filter(alloc, &bundle.profile, filter),
         Err(error) => Err(Unready::from(error)),
     }
@@ -185,6 +196,6 @@ pub fn certify_bundle<S: Sink>(
     ensures own { (policy : Policy) → IsOwnFilter native bundle.now filter.now policy
         → CertifiesOwn S.held S.failures sink.old sink.new native bundle.now filter.now result }
 {
-    let judged = judge_bundle(alloc, native, bundle, filter);
+    let judged = judge_text(alloc, native, bundle, filter);
     write_judged(alloc, &judged, sink)
 }

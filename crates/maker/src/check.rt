@@ -5,8 +5,8 @@ ghost use Rattle.profile_json.specs.declared.fault.ProfileError.TheVariants as r
 ghost use Rattle.maker.specs.declared.check.Finding.TheVariants.{NoProfile};
 ghost use Rattle.maker.specs.Finding.{IsFinding, IsJudged, WritesFinding};
 
-use call_tables::Arch;
 use cert_check::{CheckError, check};
+use machines::Arch;
 use profile::Profile;
 use profile_json::{ProfileError, read_bundle};
 use std::alloc::{AllocError, Global};

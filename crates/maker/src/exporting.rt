@@ -4,8 +4,8 @@ ghost use Rattle.maker.specs.Plain.{IsPlainBundle};
 
 use crate::slot::Slot;
 use crate::unready::refuse;
-use call_tables::Arch;
 use export::{Form, export_form};
+use machines::Arch;
 use std::alloc::Global;
 use texts::{Sink, WriteFault};
 

@@ -1,7 +1,7 @@
 //! The compiler's own filter of a profile, with a certificate.
 ghost use Rattle.std.specs.Prelude.{◌≡◌, ◌≢◌, ℕ, List, Err, IfErr, IfOk, IsErrOf, None};
 ghost use Rattle.bpf_insn.specs.Bytes.{insns_of, view_fault};
-ghost use Rattle.call_tables.specs.declared.arch.Arch.{Arch as TheArch};
+ghost use Rattle.machines.specs.declared.arch.Arch.{Arch as TheArch};
 ghost use Rattle.rule_compile.specs.declared.fault.CompileError.TheVariants as compiler;
 ghost use Rattle.rule_compile.specs.Plan.{IsPlanOf, IsPlannedTooLong};
 ghost use Rattle.rule_compile.specs.Right.{IsRightFilter};

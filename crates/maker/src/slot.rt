@@ -1,7 +1,7 @@
 //! From a bundle to its checked filter: read, compile, certify, check.
 ghost use Rattle.std.specs.Prelude.{◌≡◌, ◌≢◌, ℕ, List, None, IfErr, IfOk, IfSome};
 ghost use Rattle.bpf_insn.specs.Bytes.{insns_of, spelling, view_fault};
-ghost use Rattle.call_tables.specs.declared.arch.Arch.{Arch as TheArch};
+ghost use Rattle.machines.specs.declared.arch.Arch.{Arch as TheArch};
 ghost use Rattle.cert_check.specs.declared.fault.CheckError.TheVariants as refused;
 ghost use Rattle.cert_check.specs.Checked.{profile_of};
 ghost use Rattle.rule_compile.specs.Plan.{IsPlanOf};
@@ -15,8 +15,8 @@ use crate::own::{followed, proposed};
 use crate::proposal::Proposal;
 use crate::shorter::shorter;
 use crate::unready::Unready;
-use call_tables::Arch;
 use cert_check::{CheckError, Checked, check};
+use machines::Arch;
 use profile::Profile;
 use profile_json::read_bundle;
 use rule_compile::{Planned, plan};

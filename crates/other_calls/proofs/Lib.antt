@@ -1,2 +1,3 @@
 pub mod TurnLaws
 pub mod GuardLaws
+pub mod LimitLaws

@@ -3,8 +3,8 @@ use Rattle.std.specs.Prelude.{◌≡◌, ◌↔◌, ℕ, List, Some}
 use Rattle.std.specs.List.{Any}
 use Rattle.call_record.specs.Verdict.{allow, kill_thread}
 use Rattle.call_record.specs.Words.{IsRecord, word}
-use Rattle.call_tables.specs.declared.arch.Arch.{Arch}
-use Rattle.call_tables.specs.Numbers.{HasCall}
+use Rattle.machines.specs.declared.arch.Arch.{Arch}
+use Rattle.machines.specs.Numbers.{HasCall}
 use Rattle.bpf_insn.specs.declared.instruction.Insn.{Insn}
 use Rattle.bpf_insn.specs.Machine.{verdict_of}
 

@@ -1,2 +1,3 @@
 pub mod Guarded
+pub mod Reason
 pub mod inner

@@ -1,11 +1,13 @@
 //! The instructions in front that tell calls of machines from all others.
-ghost use Rattle.std.specs.Prelude.{◌≡◌, ◌++◌, ◌-◌, IfOk, length};
+ghost use Rattle.std.specs.Prelude.{◌≡◌, ◌++◌, ◌+◌, ◌*◌, ◌-◌, IfErr, IfOk, length};
+ghost use Rattle.other_calls.specs.Reason.{ranges};
 ghost use Rattle.other_calls.specs.inner.Guard as spec;
+ghost use Rattle.other_calls.specs.inner.Limit.{IsLimit};
 
 use crate::insns::insn;
 use crate::unguarded::Unguarded;
 use bpf_insn::{Insn, MAX_INSNS};
-use call_tables::{Arch, Numbers};
+use machines::{Arch, Numbers};
 use std::alloc::{AllocError, Global};
 
 // How many instructions tell calls of one token, with numbers of one range.
@@ -43,7 +45,8 @@ fn before(
     tail: usize,
     program: &[Insn],
 ) -> Result<Vec<Insn>, Unguarded>
-    ensures { IfOk result (λ all. all.items ≡ spec.before token numbers.now tail program.now) }
+    ensures made { IfOk result (λ all. all.items ≡ spec.before token numbers.now tail program.now) }
+    ensures limit { IfErr result (IsLimit (length program.now)) }
 {
     if program.len() > MAX_INSNS {
         return Err(Unguarded::TooLong);
@@ -64,7 +67,8 @@ fn fronts(
     tail: usize,
     program: Vec<Insn>,
 ) -> Result<Vec<Insn>, Unguarded>
-    ensures { IfOk result (λ all. all.items ≡ spec.fronts token numbers.now tail program.items) }
+    ensures made { IfOk result (λ all. all.items ≡ spec.fronts token numbers.now tail program.items) }
+    ensures limit { IfErr result (IsLimit (length program.items + 6 * length numbers.now)) }
 {
     match numbers {
         [first, more @ ..] => match fronts(alloc, token, more, tail, program) {
@@ -83,7 +87,8 @@ pub(crate) fn guard(
     tail: usize,
     program: Vec<Insn>,
 ) -> Result<Vec<Insn>, Unguarded>
-    ensures { IfOk result (λ all. all.items ≡ spec.guard machines.now tail program.items) }
+    ensures made { IfOk result (λ all. all.items ≡ spec.guard machines.now tail program.items) }
+    ensures limit { IfErr result (IsLimit (length program.items + 6 * ranges machines.now)) }
 {
     match machines {
         [first, more @ ..] => match guard(alloc, more, tail, program) {

@@ -1,4 +1,10 @@
 //! Why no such filter is made.
+ghost use Rattle.std.specs.Prelude.{◌≡◌, ℕ, List};
+ghost use Rattle.machines.specs.declared.arch.Arch.{Arch};
+ghost use Rattle.flatten.specs.Unflat.{IsOf};
+ghost use Rattle.flatten.specs.declared.unflat.Unflat.TheVariants.{TooLong as LongStack};
+ghost use Rattle.other_calls.specs.Reason.{IsReason};
+
 use bpf_insn::ViewError;
 use flatten::Unflat;
 use kernel_check::Refused;
@@ -31,14 +37,16 @@ impl<T: Drop> From<AllocFailed<T>> for Unguarded {
     }
 }
 
-impl From<Unflat> for Unguarded {
-    fn from(error: Unflat) -> Unguarded {
-        match error {
-            Unflat::Bytes(_only, fault) => Unguarded::View(fault),
-            Unflat::Refused(_only, refused) => Unguarded::Kernel(refused),
-            Unflat::Unplain(_only, at) => Unguarded::Unplain(at),
-            Unflat::Made | Unflat::TooLong => Unguarded::TooLong,
-            Unflat::OutOfMemory => Unguarded::OutOfMemory,
-        }
+/// Why no filter is made of one that is not taken.
+pub(crate) fn told(error: Unflat) -> Unguarded
+    ensures { (machines : List Arch) (filter : List ℕ) → IsOf filter error → (error ≡ LongStack → ⊥)
+        → IsReason machines filter result }
+{
+    match error {
+        Unflat::Bytes(_only, fault) => Unguarded::View(fault),
+        Unflat::Refused(_only, refused) => Unguarded::Kernel(refused),
+        Unflat::Unplain(_only, at) => Unguarded::Unplain(at),
+        Unflat::TooLong => Unguarded::TooLong,
+        Unflat::Made | Unflat::OutOfMemory => Unguarded::OutOfMemory,
     }
 }

@@ -6,8 +6,8 @@ use crate::parts::{Cut, are_many, cut_below, listed};
 use crate::rules::Numbered;
 use crate::spot::{Spot, Which};
 use crate::words::{Told, Words};
-use call_tables::{Arch, LEAST_X32_NUMBER};
 use cert_state::{AVal, Facts, Knowledge, Lit, Room, range};
+use machines::{Arch, LEAST_X32_NUMBER};
 use profile::{MAX_RULES, Rule, foreign_numbers};
 use std::alloc::{AllocError, Global};
 

@@ -8,7 +8,7 @@ use Rattle.std.proofs.lemmas.Bool.{and_parts, eqb-true}
 use Rattle.std.proofs.lemmas.Bool.Decides.{Decides-eqb}
 use Rattle.call_record.specs.declared.layout.Record.{Record}
 use Rattle.bpf_insn.specs.declared.instruction.Insn.{Insn}
-use Rattle.call_tables.specs.declared.arch.Arch.{Arch}
+use Rattle.machines.specs.declared.arch.Arch.{Arch}
 use Rattle.processes.specs.declared.outcome.End.{End}
 use Rattle.processes.specs.declared.outcome.End.TheVariants as end
 use Rattle.processes.specs.declared.outcome.Outcome.{Outcome}

@@ -3,8 +3,8 @@ use Rattle.std.proofs.Common.{◌≡◌, ℕ, ◌-◌, ◌^◌, List, [], ◌∷
 use Rattle.std.specs.Prelude.{codes, replicate}
 use Rattle.std.specs.List.{flat_map}
 use Rattle.std.specs.Option.{option_map}
-use Rattle.call_tables.specs.declared.arch.Arch.TheVariants.{X86_64, Aarch64}
-use Rattle.call_tables.specs.Machines.{x86_64_table, aarch64_table}
+use Rattle.machines.specs.declared.arch.Arch.TheVariants.{X86_64, Aarch64}
+use Rattle.call_tables.specs.Tables.{x86_64_table, aarch64_table}
 use Rattle.call_record.specs.Verdict.{strictest_of}
 use Rattle.bpf_insn.specs.Code.{operation_of}
 use Rattle.processes.specs.Attached.{is_accepted, nothing_beside}

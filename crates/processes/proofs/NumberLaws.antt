@@ -3,12 +3,12 @@ use Rattle.std.proofs.Common.{◌≡◌, ℕ, ◌==◌, Bool, true, false, List,
 use Rattle.std.specs.Str.{bytes_eq}
 use Rattle.std.proofs.lemmas.Bool.Decides.{Decides-eqb}
 use Rattle.std.proofs.lemmas.Slice.Eq.{bytes_eq-Decides}
-use Rattle.call_tables.specs.declared.arch.Arch.{Arch}
-use Rattle.call_tables.specs.Arch.{table_of}
-use Rattle.call_tables.specs.Machines.{first_rows, second_rows, third_rows, fourth_rows, x86_64_table, aarch64_table}
-use Rattle.call_tables.specs.Machines.{linux_x86_64_table, linux_x86_table, linux_x32_table, linux_aarch64_table, linux_arm_table, linux_riscv64_table, linux_ppc64le_table, linux_loongarch64_table, linux_s390x_table, linux_s390_table}
+use Rattle.machines.specs.declared.arch.Arch.{Arch}
+use Rattle.call_tables.specs.Tables.{table_of}
+use Rattle.call_tables.specs.Tables.{first_rows, second_rows, third_rows, fourth_rows, x86_64_table, aarch64_table}
+use Rattle.call_tables.specs.Tables.{linux_x86_64_table, linux_x86_table, linux_x32_table, linux_aarch64_table, linux_arm_table, linux_riscv64_table, linux_ppc64le_table, linux_loongarch64_table, linux_s390x_table, linux_s390_table}
 use Rattle.call_tables.specs.Table.{IsInverse, Table, name_in, number_in}
-use Rattle.call_tables.proofs.ArchLaws.{table_of-inverse}
+use Rattle.call_tables.proofs.InverseLaws.{table_of-inverse}
 use Rattle.processes.specs.Calls.{call_beside, named_calls}
 use Rattle.processes.specs.declared.calls.Call.{Call}
 use Rattle.processes.specs.declared.calls.TheConstants.{X86_64_NUMBERS, X86_NUMBERS, X32_NUMBERS, AARCH64_NUMBERS, ARM_NUMBERS, PPC64LE_NUMBERS, S390_NUMBERS}

@@ -5,11 +5,12 @@ use Rattle.std.specs.Prelude.{codes, unwrap_or}
 use Rattle.std.specs.List.{list_any}
 use Rattle.std.proofs.lemmas.List.Elements.{All-cons}
 use Rattle.std.specs.Str.{bytes_eq}
-use Rattle.call_tables.specs.declared.arch.Arch.{Arch}
-use Rattle.call_tables.specs.declared.arch.Arch.TheVariants.{X86_64}
-use Rattle.call_tables.specs.Arch.{table_of, token_of}
+use Rattle.machines.specs.declared.arch.Arch.{Arch}
+use Rattle.machines.specs.declared.arch.Arch.TheVariants.{X86_64}
+use Rattle.machines.specs.Arch.{token_of}
+use Rattle.call_tables.specs.Tables.{table_of}
 use Rattle.call_tables.specs.Table.{Table, number_in, name_in}
-use Rattle.call_tables.specs.Machines.{x86_64_table}
+use Rattle.call_tables.specs.Tables.{x86_64_table}
 use Rattle.call_record.specs.Words.{FieldsFit}
 use Rattle.call_record.specs.Verdict.{strictest_of}
 use Rattle.call_record.specs.declared.layout.Record.{Record}

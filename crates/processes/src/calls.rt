@@ -1,10 +1,10 @@
 //! The calls that the kernel tells from one another, and their numbers on each machine.
 ghost use Rattle.std.specs.Prelude.{◌≡◌};
-ghost use Rattle.call_tables.specs.Arch.{table_of};
+ghost use Rattle.call_tables.specs.Tables.{table_of};
 ghost use Rattle.processes.specs.Calls.{named_calls};
 ghost use Rattle.processes.specs.inner.Numbers.{call_at, numbers_in};
 
-use call_tables::Arch;
+use machines::Arch;
 
 /// The calls that the kernel tells from one another.
 #[derive(Clone, Copy)]
@@ -39,7 +39,7 @@ pub enum Call {
 
 impl Call {
     ghost use Rattle.std.specs.Prelude.{◌≡◌, ℕ, List, Some};
-    ghost use Rattle.call_tables.specs.Arch.{table_of};
+    ghost use Rattle.call_tables.specs.Tables.{table_of};
     ghost use Rattle.call_tables.specs.Table.{name_in};
     ghost use Rattle.processes.specs.Calls.{call_beside, named_calls};
 

@@ -10,8 +10,8 @@ use crate::signals::{LAST_SIGNAL, is_fatal};
 use crate::store::Store;
 use crate::task::Task;
 use crate::tasks::{Which, end_where, group_lives, index_of};
-use call_tables::Arch;
 use kernel_check::Accepted;
+use machines::Arch;
 use std::alloc::{AllocError, Global};
 
 // The most tasks that are ever made in a container.

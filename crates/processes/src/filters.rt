@@ -6,8 +6,8 @@ ghost use Rattle.kernel_check.specs.Lent.{accepted_insns};
 use crate::store::Store;
 use bpf_interp::verdict;
 use call_record::{Record, Word, stricter};
-use call_tables::Arch;
 use kernel_check::{Accepted, AcceptedBuf};
+use machines::Arch;
 use std::alloc::{AllocError, Global};
 use std::marker::Model;
 

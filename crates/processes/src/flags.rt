@@ -1,10 +1,10 @@
 //! The flags of seccomp(2) with a filter.
 ghost use Rattle.std.specs.Prelude.{⊤, ◌≡◌, [], ◌∷◌, codes};
-ghost use Rattle.call_tables.specs.Arch.{family_of};
+ghost use Rattle.machines.specs.Arch.{family_of};
 ghost use Rattle.processes.specs.Calls.{known_flags};
 
 use bitflags::{Flag, Flags, bitflag_items};
-use call_tables::{Arch, Family};
+use machines::{Arch, Family};
 
 /// The flags that the kernel knows.
 #[derive(Clone, Copy)]

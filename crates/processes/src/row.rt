@@ -6,7 +6,8 @@ use crate::calls::Call;
 use crate::flags::{FilterFlags, known_flags};
 use bitflags::Flags;
 use call_record::Record;
-use call_tables::Arch;
+use call_tables::call_name;
+use machines::Arch;
 
 // clone's flag for a thread of the caller's group (clone(2)).
 const CLONE_THREAD: u64 = 0x10000;
@@ -156,7 +157,7 @@ pub(crate) fn row_of(native: Arch, rec: &Record) -> Row
     if rec.arch != native.token() {
         return Row::Missing;
     }
-    if native.name(rec.nr).is_none() {
+    if call_name(native, rec.nr).is_none() {
         return Row::Missing;
     }
     row_by(native, Call::numbered(native, rec.nr), rec)

@@ -7,8 +7,8 @@ ghost use Rattle.processes.specs.Stores.{has_filter, loads_in, notifier, program
 ghost use Rattle.processes.specs.Tasks.{Filter};
 
 use call_record::{Record, Word};
-use call_tables::Arch;
 use kernel_check::Accepted;
+use machines::Arch;
 use std::alloc::{AllocError, Global};
 
 /// The filters of a container: each task holds a handle, which stands for its list of filters.

@@ -4,8 +4,8 @@ use Rattle.std.specs.List.{All}
 use Rattle.std.proofs.lemmas.List.Elements.{All-weaker}
 use Rattle.call_record.specs.Words.{word, argument, words_from}
 use Rattle.call_record.proofs.RecordLemmas.{argument-words_from}
-use Rattle.call_tables.specs.Arch.{token_of}
-use Rattle.call_tables.specs.Width.{compared, is_narrow}
+use Rattle.machines.specs.Arch.{token_of}
+use Rattle.machines.specs.Width.{compared, is_narrow}
 use Rattle.profile.specs.declared.conditions.Cond.{Cond}
 use Rattle.profile.specs.declared.rules.Rule.{Rule}
 use Rattle.profile.specs.Condition.{Meets}

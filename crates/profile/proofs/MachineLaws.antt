@@ -9,14 +9,14 @@ use Rattle.std.proofs.lemmas.Bool.{cases_Bool}
 use Rattle.std.proofs.lemmas.Bool.Decides.{Decides-by_or, Decides-like, same_from_decides}
 use Rattle.std.proofs.lemmas.List.Elements.{All-contains, All-contains_itself, All-cons, All-filter, All-nil, All-weaker, at_read}
 use Rattle.std.proofs.lemmas.List.Elements.{filter_agree, filter_more, filter_passes}
-use Rattle.call_tables.specs.declared.arch.Arch.{Arch}
-use Rattle.call_tables.specs.declared.arch.Arch.TheVariants.{X86_64, Aarch64, LinuxX86_64, LinuxX86, LinuxX32, LinuxAarch64, LinuxArm, LinuxRiscv64, LinuxPpc64le, LinuxLoongarch64, LinuxS390x, LinuxS390}
-use Rattle.call_tables.specs.declared.arch.Family.{Family}
-use Rattle.call_tables.specs.declared.arch.Family.TheVariants.{Chosen, Whole}
-use Rattle.call_tables.specs.Arch.{family_of, machines_of, same_arch, AreOfFamily}
-use Rattle.call_tables.specs.Numbers.{HasCall, IsWithin}
-use Rattle.call_tables.proofs.ArchLaws.{Decides-same_arch}
-use Rattle.call_tables.proofs.NumberLaws.{own_not_other, shared}
+use Rattle.machines.specs.declared.arch.Arch.{Arch}
+use Rattle.machines.specs.declared.arch.Arch.TheVariants.{X86_64, Aarch64, LinuxX86_64, LinuxX86, LinuxX32, LinuxAarch64, LinuxArm, LinuxRiscv64, LinuxPpc64le, LinuxLoongarch64, LinuxS390x, LinuxS390}
+use Rattle.machines.specs.declared.arch.Family.{Family}
+use Rattle.machines.specs.declared.arch.Family.TheVariants.{Chosen, Whole}
+use Rattle.machines.specs.Arch.{family_of, machines_of, same_arch, AreOfFamily}
+use Rattle.machines.specs.Numbers.{HasCall, IsWithin}
+use Rattle.machines.proofs.ArchLaws.{Decides-same_arch}
+use Rattle.machines.proofs.NumberLaws.{own_not_other, shared}
 use Rattle.profile.specs.Machines.{in_order}
 use Rattle.profile.specs.Policy.{InOrder}
 

@@ -5,8 +5,8 @@ use Rattle.std.specs.List.{All, Contains, list_any}
 use Rattle.std.proofs.lemmas.Bool.{cases_Bool, and_parts}
 use Rattle.std.proofs.lemmas.Bool.Decides.{Decides-eqb}
 use Rattle.std.proofs.lemmas.List.Elements.{All-nil, All-cons, All-weaker, All-contains}
-use Rattle.call_tables.specs.Arch.{token_of}
-use Rattle.call_tables.specs.Width.{compared, is_narrow}
+use Rattle.machines.specs.Arch.{token_of}
+use Rattle.machines.specs.Width.{compared, is_narrow}
 use Rattle.profile.specs.declared.conditions.Cond.{Cond}
 use Rattle.profile.specs.declared.rules.Rule.{Rule}
 use Rattle.profile.specs.Operator.{are_distinct}
@@ -15,7 +15,7 @@ use Rattle.profile.specs.Condition.{Meets}
 use Rattle.profile.specs.Rule.{argument_of, is_narrow_rule, Overlap}
 use Rattle.profile.specs.inner.Meeting.{HaveCommon, HasCommon, AllHaveCommon, CanOverlap, greatest}
 use Rattle.call_record.proofs.RecordLemmas.{argument-words_from, words_from-is_record}
-use Rattle.call_tables.proofs.ArchLaws.{token_of-fits}
+use Rattle.machines.proofs.ArchLaws.{token_of-fits}
 use Rattle.profile.proofs.Arguments.{argument_of-rule}
 use Rattle.profile.proofs.Sides.{greatest_fits}
 

@@ -7,8 +7,8 @@ use Rattle.std.proofs.lemmas.Bool.{and_parts}
 use Rattle.std.proofs.lemmas.Bool.Decides.{Decides-eqb}
 use Rattle.std.specs.Cmp.Lexicographic.{pointwise, pointwise_decides}
 use denote.Enum.Bare.{sameb, same_true, true_same}
-use Rattle.call_tables.specs.declared.arch.Arch.{Arch}
-use Rattle.call_tables.specs.contracts.arch.Arch as arch_contract
+use Rattle.machines.specs.declared.arch.Arch.{Arch}
+use Rattle.machines.specs.contracts.arch.Arch as arch_contract
 use Rattle.profile.specs.contracts.conditions.Op as op_contract
 use Rattle.profile.specs.declared.conditions.Cond.{Cond}
 use Rattle.profile.specs.declared.conditions.Op.{Op}

@@ -1,7 +1,7 @@
 -- The rules of a list for one call, from the last to the first.
 use Rattle.std.specs.Prelude.{◌≡◌, ◌<◌, ◌≤◌, ℕ, List, Option, Some, IfSome, slice_get}
 use Rattle.std.specs.Option.{IsSomeAnd}
-use Rattle.call_tables.specs.Arch.{token_of}
+use Rattle.machines.specs.Arch.{token_of}
 use Rattle.profile.specs.declared.rules.Rule.{Rule}
 
 -- the rule is for the call of this number on the machine of this token

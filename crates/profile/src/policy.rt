@@ -7,11 +7,11 @@ use crate::clashes::first_clash;
 use crate::distinct::{Kept, keep_once};
 use crate::fault::BuildError;
 use crate::index::Index;
-use crate::machines::{MACHINES, are_for, are_of_family, first_foreign, in_order, lists};
+use crate::machine_order::{MACHINES, are_for, are_of_family, first_foreign, in_order, lists};
 use crate::rules::Rule;
 use arrayvec::ArrayVec;
 use call_record::{Record, Word};
-use call_tables::Arch;
+use machines::Arch;
 use std::alloc::Global;
 use std::marker::Model;
 
@@ -48,7 +48,7 @@ impl Model for Profile {
 
 impl Profile {
     ghost use Rattle.std.specs.Prelude.{◌<◌, IfOk, IfErr, Some, length, slice_get};
-    ghost use Rattle.call_tables.specs.Arch.{token_of};
+    ghost use Rattle.machines.specs.Arch.{token_of};
     ghost use Rattle.call_record.specs.Record.{words};
     ghost use Rattle.profile.specs.declared.rules.Rule.{Rule as TheRule};
     ghost use Rattle.profile.specs.Latest.{IsLatest};

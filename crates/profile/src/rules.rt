@@ -1,6 +1,6 @@
 //! Rules of a profile.
 ghost use Rattle.std.specs.Prelude.{◌≡◌, ◌↔◌, ◌==◌, ◌<◌, ◌^◌, ⊤, true, map, IsTrue, All, slice_index};
-ghost use Rattle.call_tables.specs.Width as width;
+ghost use Rattle.machines.specs.Width as width;
 ghost use Rattle.std.specs.List.{list_any};
 ghost use Rattle.profile.specs.Condition.{Meets};
 ghost use Rattle.profile.specs.Operator.{are_distinct};
@@ -8,7 +8,7 @@ ghost use Rattle.profile.specs.Operator.{are_distinct};
 use crate::conditions::Cond;
 use arrayvec::ArrayVec;
 use call_record::{Record, Word};
-use call_tables::{Arch, compared, is_narrow};
+use machines::{Arch, compared, is_narrow};
 use std::alloc::AllocError;
 
 /// A rule for one call of one machine: the verdict of a record that meets all its conditions.

@@ -6,7 +6,11 @@ pub mod KeyLaws
 pub mod ArchLaws
 pub mod ArgLaws
 pub mod EntryLaws
+pub mod ArgPlaces
+pub mod PlaceLaws
 pub mod BundleLaws
+pub mod PlaceTop
+pub mod PlaceIs
 pub mod Looking
 pub mod Conditions
 pub mod NameLemmas

@@ -4,10 +4,10 @@ use Rattle.std.specs.List.{Contains}
 use Rattle.std.specs.Str.{IsUtf8}
 use Rattle.serde_json.specs.Read.{read}
 use Rattle.serde_json.specs.Data.{Data}
-use Rattle.call_tables.specs.declared.arch.Arch.{Arch}
-use Rattle.call_tables.specs.declared.arch.Family.{Family}
-use Rattle.call_tables.specs.declared.arch.Family.TheVariants.{Chosen, Whole}
-use Rattle.call_tables.specs.Arch.{family_of}
+use Rattle.machines.specs.declared.arch.Arch.{Arch}
+use Rattle.machines.specs.declared.arch.Family.{Family}
+use Rattle.machines.specs.declared.arch.Family.TheVariants.{Chosen, Whole}
+use Rattle.machines.specs.Arch.{family_of}
 use Rattle.profile.specs.declared.conditions.Op.{Op}
 use Rattle.profile.specs.declared.rules.Rule.{Rule}
 use Rattle.profile.specs.Operator.{mask_of}
@@ -113,14 +113,21 @@ pub data ArgsBreak (d : Data) : Fault → Type 0 where
       → slice_get ds i ≡ Some x → slice_get ds j ≡ Some y
       → member whole key.index x ≡ holds n → member whole key.index y ≡ holds n → ArgsBreak d repeated_index
 
+-- a member of `names`
+pub data NameBreaks (family : Family) (x : Data) : Fault → Type 0 where
+  no_text : text x ≡ None → NameBreaks family x wrong_type
+  unknown : (name : List ℕ) → text x ≡ Some name → is_known family name ≡ false → NameBreaks family x (unknown_call (short_name name))
+
+-- `names` as a whole
+pub data NamesListBreaks (family : Family) (d : Data) : Fault → Type 0 where
+  no_list : (f : Fault) → NeededBreaks (member list key.names d) f → NamesListBreaks family d f
+  none : member list key.names d ≡ holds [] → NamesListBreaks family d empty_names
+  many : (ds : List Data) → member list key.names d ≡ holds ds → most_names family < length ds → NamesListBreaks family d too_many
+
 pub data NamesBreak (family : Family) (d : Data) : Fault → Type 0 where
-  no_list : (f : Fault) → NeededBreaks (member list key.names d) f → NamesBreak family d f
-  none : member list key.names d ≡ holds [] → NamesBreak family d empty_names
-  many : (ds : List Data) → member list key.names d ≡ holds ds → most_names family < length ds → NamesBreak family d too_many
-  no_text : (ds : List Data) (x : Data) → member list key.names d ≡ holds ds → Contains ds x → text x ≡ None
-      → NamesBreak family d wrong_type
-  unknown : (ds : List Data) (x : Data) (name : List ℕ) → member list key.names d ≡ holds ds → Contains ds x → text x ≡ Some name
-      → is_known family name ≡ false → NamesBreak family d (unknown_call (short_name name))
+  in_list : (f : Fault) → NamesListBreaks family d f → NamesBreak family d f
+  in_name : (ds : List Data) (x : Data) (f : Fault) → member list key.names d ≡ holds ds → Contains ds x → NameBreaks family x f
+      → NamesBreak family d f
 
 pub data EntryBreaks (family : Family) (d : Data) : Fault → Type 0 where
   no_object : object d ≡ None → EntryBreaks family d wrong_type
@@ -138,20 +145,24 @@ pub record ClashUnder (machines : List Arch) (x y : EntryParts) (name : List ℕ
   pub second_is : Contains (rules_under machines y name) (rule_parts second)
   pub clash : Clash first second
 
-pub data EntriesBreak (s : Data) (native : Arch) : Fault → Type 0 where
-  no_list : or_default [] (member list key.syscalls s) ≡ None → EntriesBreak s native wrong_type
+-- the list as a whole, or two of its entries
+pub data ListBreaks (s : Data) (native : Arch) : Fault → Type 0 where
+  no_list : or_default [] (member list key.syscalls s) ≡ None → ListBreaks s native wrong_type
   many : (ds : List Data) → or_default [] (member list key.syscalls s) ≡ Some ds → most_entries (family_of native) < length ds
-      → EntriesBreak s native too_many
-  in_entry : (ds : List Data) (d : Data) (f : Fault) → or_default [] (member list key.syscalls s) ≡ Some ds → Contains ds d
-      → EntryBreaks (family_of native) d f → EntriesBreak s native f
+      → ListBreaks s native too_many
   many_rules : (archs : List Arch) (entries : List EntryParts) (said kept : List Rule) → ListsArchs s native archs
       → EntriesMean (family_of native) s entries
       → map rule_parts said ≡ rules_of (in_order (family_of native) archs) entries → KeepsOnce said kept → most_rules < length kept
-      → EntriesBreak s native too_many
+      → ListBreaks s native too_many
   overlapping : (archs : List Arch) (ds : List Data) (i j : ℕ) (d e : Data) (x y : EntryParts) (name : List ℕ) → ListsArchs s native archs
       → or_default [] (member list key.syscalls s) ≡ Some ds → i < j → slice_get ds i ≡ Some d → slice_get ds j ≡ Some e
       → EntryMeans (family_of native) d x → EntryMeans (family_of native) e y → ClashUnder (in_order (family_of native) archs) x y name
-      → EntriesBreak s native (overlap (short_name name) i j)
+      → ListBreaks s native (overlap (short_name name) i j)
+
+pub data EntriesBreak (s : Data) (native : Arch) : Fault → Type 0 where
+  in_list : (f : Fault) → ListBreaks s native f → EntriesBreak s native f
+  in_entry : (ds : List Data) (d : Data) (f : Fault) → or_default [] (member list key.syscalls s) ≡ Some ds → Contains ds d
+      → EntryBreaks (family_of native) d f → EntriesBreak s native f
 
 -- the rules that the object under linux.seccomp breaks
 pub data SeccompBreaks (s : Data) (native : Arch) : Fault → Type 0 where

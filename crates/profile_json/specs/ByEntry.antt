@@ -1,8 +1,8 @@
 -- The rules that a bundle says, entry by entry (OCI Runtime Specification, config-linux, Seccomp, `syscalls`).
 use Rattle.std.specs.Prelude.{◌≡◌, ℕ, List, map, nat_lt, position, Some}
 use Rattle.serde_json.specs.Data.{Data}
-use Rattle.call_tables.specs.declared.arch.Arch.{Arch}
-use Rattle.call_tables.specs.Arch.{family_of}
+use Rattle.machines.specs.declared.arch.Arch.{Arch}
+use Rattle.machines.specs.Arch.{family_of}
 use Rattle.profile.specs.declared.rules.Rule.{Rule}
 use Rattle.profile_json.specs.Parts.{EntryParts, rule_parts}
 use Rattle.profile.specs.Machines.{in_order}

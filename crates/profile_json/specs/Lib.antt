@@ -8,5 +8,7 @@ pub mod Rules
 pub mod Meaning
 pub mod ByEntry
 pub mod Breaks
+pub mod Place
+pub mod Document
 pub mod Laws
 pub mod inner

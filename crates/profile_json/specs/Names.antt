@@ -4,10 +4,11 @@ use Rattle.std.specs.Prelude.{codes, ℕ, ◌+◌, List, [], ◌∷◌, ◌++◌
 use Rattle.std.specs.List.{list_any}
 use Rattle.std.specs.Str.{bytes_eq}
 use Rattle.call_record.specs.Verdict as verdict
-use Rattle.call_tables.specs.declared.arch.Arch.{Arch}
-use Rattle.call_tables.specs.declared.arch.Family.{Family}
-use Rattle.call_tables.specs.declared.arch.Family.TheVariants.{Chosen, Whole}
-use Rattle.call_tables.specs.Arch.{scmp_of, table_of, machines_of}
+use Rattle.machines.specs.declared.arch.Arch.{Arch}
+use Rattle.machines.specs.declared.arch.Family.{Family}
+use Rattle.machines.specs.declared.arch.Family.TheVariants.{Chosen, Whole}
+use Rattle.machines.specs.Arch.{scmp_of, machines_of}
+use Rattle.call_tables.specs.Tables.{table_of}
 use Rattle.call_tables.specs.Table.{number_in}
 use Rattle.profile.specs.declared.conditions.Op.{Op}
 use Rattle.profile.specs.declared.conditions.Op.TheVariants as op

@@ -1,6 +1,6 @@
 -- Conditions, rules and entries as a text says them: without the facts that the types of a profile keep.
 use Rattle.std.specs.Prelude.{ℕ, List, map}
-use Rattle.call_tables.specs.declared.arch.Arch.{Arch}
+use Rattle.machines.specs.declared.arch.Arch.{Arch}
 use Rattle.profile.specs.declared.conditions.Op.{Op}
 use Rattle.profile.specs.declared.conditions.Cond.{Cond}
 use Rattle.profile.specs.declared.rules.Rule.{Rule}

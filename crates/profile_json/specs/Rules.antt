@@ -1,8 +1,8 @@
 -- The rules that entries say on the listed machines.
 use Rattle.std.specs.Prelude.{ℕ, ◌+◌, List, [], ◌∷◌, length, option_map}
 use Rattle.std.specs.List.{filter_map, flat_map}
-use Rattle.call_tables.specs.declared.arch.Arch.{Arch}
-use Rattle.call_tables.specs.Arch.{table_of}
+use Rattle.machines.specs.declared.arch.Arch.{Arch}
+use Rattle.call_tables.specs.Tables.{table_of}
 use Rattle.call_tables.specs.Table.{number_in}
 use Rattle.profile_json.specs.Parts.{EntryParts, RuleParts}
 

@@ -10,7 +10,7 @@ use crate::fault::ProfileError;
 use crate::key::{self, ACTION, DEFAULT_ACTION, DEFAULT_ERRNO_RET, ERRNO_RET};
 use crate::lookup::{text_at, whole_if_there};
 use call_record::Word;
-use call_tables::Family;
+use machines::Family;
 use serde_json::Value;
 
 /// What is done with a call.

@@ -1,9 +1,12 @@
 //! The conditions of an entry, from its `args`.
-ghost use Rattle.std.specs.Prelude.{◌≡◌, ◌<◌, ◌==◌, [], map, true, false, IfOk};
+ghost use Rattle.std.specs.Prelude.{◌≡◌, ◌<◌, ◌==◌, [], map, true, false, IfErr, IfOk, IsSomeAnd, Ok};
 ghost use Rattle.std.specs.List.{list_any};
 ghost use Rattle.serde_json.specs.View.{view};
 ghost use Rattle.profile.specs.Operator.{are_distinct};
+ghost use Rattle.machines.specs.declared.arch.Family.{Family};
+ghost use Rattle.profile_json.specs.Fault.{fault_of};
 ghost use Rattle.profile_json.specs.Names as names;
+ghost use Rattle.profile_json.specs.Place.{ArgBreaksAt, MemberBreaksAt};
 ghost use Rattle.profile_json.specs.inner.Outcome.{Gives};
 ghost use Rattle.profile_json.specs.Parts.{cond_parts};
 ghost use Rattle.profile_json.specs.inner.Reading as spec;
@@ -11,6 +14,7 @@ ghost use Rattle.profile_json.specs.inner.Reading as spec;
 use crate::fault::ProfileError;
 use crate::key::{self, ARGS, INDEX, OP, VALUE, VALUE_TWO};
 use crate::lookup::{list_or_empty, object_of, text_at, whole_at, whole_or_zero};
+use crate::refusal::{EntryRefusal, Part, RefusedAt};
 use arrayvec::ArrayVec;
 use profile::{Cond, Op, has_index};
 use serde_json::Value;
@@ -82,23 +86,42 @@ fn arg_of(value: &Value, earlier: &ArrayVec<Cond, 6>) -> Result<Cond, ProfileErr
     cond_of(index, op, first, second)
 }
 
-/// The conditions of an entry, each on an argument of its own.
-fn args_in(values: &[Value]) -> Result<ArrayVec<Cond, 6>, ProfileError>
-    ensures reading { Gives (λ v. map cond_parts v.items) result (spec.args_after [] (map view values.now)) }
+/// The conditions of an entry, each on an argument of its own, or the first value that is none.
+fn args_in(values: &[Value]) -> Result<ArrayVec<Cond, 6>, RefusedAt>
+    ensures ok { IfOk result (λ v. spec.args_after [] (map view values.now) ≡ Ok (map cond_parts v.items)) }
     ensures apart { IfOk result (λ v. are_distinct (map (λ c. c.index) v.items) ≡ true) }
+    ensures err { IfErr result (λ r. IsSomeAnd (fault_of r.error) (ArgBreaksAt (map view values.now) r.at)) }
 {
     let mut found = ArrayVec::new();
-    for value in values {
-        let cond = arg_of(value, &found)?;
-        found.push(cond);
+    for (at, value) in values.iter().enumerate() {
+        match arg_of(value, &found) {
+            Ok(cond) => found.push(cond),
+            Err(error) => return Err(RefusedAt { error, at }),
+        }
     }
     Ok(found)
 }
 
 #[tactic(auto, unfolding(crate::specs::inner::Reading::args_of))]
-pub(crate) fn args_of(entry: &Value) -> Result<ArrayVec<Cond, 6>, ProfileError>
-    ensures reading { Gives (λ v. map cond_parts v.items) result (spec.args_of (view entry.now)) }
+pub(crate) fn args_of(entry: &Value) -> Result<ArrayVec<Cond, 6>, EntryRefusal>
+    ensures ok { IfOk result (λ v. spec.args_of (view entry.now) ≡ Ok (map cond_parts v.items)) }
     ensures apart { IfOk result (λ v. are_distinct (map (λ c. c.index) v.items) ≡ true) }
+    ensures err { (family : Family) → IfErr result (λ r. IsSomeAnd (fault_of r.error) (MemberBreaksAt family (view entry.now) r.part)) }
 {
-    args_in(list_or_empty(entry, ARGS)?)
+    let values = match list_or_empty(entry, ARGS) {
+        Ok(values) => values,
+        Err(error) => {
+            return Err(EntryRefusal {
+                error,
+                part: Part::Args,
+            });
+        }
+    };
+    match args_in(values) {
+        Ok(conds) => Ok(conds),
+        Err(told) => Err(EntryRefusal {
+            error: told.error,
+            part: Part::Arg(told.at),
+        }),
+    }
 }

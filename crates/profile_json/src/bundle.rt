@@ -1,27 +1,26 @@
 //! Bundles.
-ghost use Rattle.std.specs.Prelude.{◌≡◌, true, IfOk, IfErr, IfSome};
+ghost use Rattle.std.specs.Prelude.{◌≡◌, ◌≢◌, true, IfOk, IfErr, IfSome};
 ghost use Rattle.std.specs.List.{list_any};
 ghost use Rattle.serde_json.specs.Data.{Data};
 ghost use Rattle.serde_json.specs.View.{view};
-ghost use Rattle.call_tables.specs.Arch.{family_of, same_arch, AreOfFamily};
+ghost use Rattle.machines.specs.Arch.{family_of, same_arch, AreOfFamily};
 ghost use Rattle.profile_json.specs.Breaks.{Breaks};
+ghost use Rattle.profile_json.specs.ByEntry.{AreRulesOf};
 ghost use Rattle.profile_json.specs.Fault.{fault_of};
+ghost use Rattle.profile_json.specs.declared.fault.ProfileError.TheVariants.{OutOfMemory};
+ghost use Rattle.profile_json.specs.Place.{BreaksAt};
+ghost use Rattle.profile_json.specs.declared.refusal.Place.TheVariants.{Text};
 ghost use Rattle.profile_json.specs.inner.Making.{IsMade, IsNotMade};
 ghost use Rattle.profile_json.specs.Meaning.{IsText, Means};
-ghost use Rattle.profile_json.specs.inner.Outcome.{GivesWithMemory};
-ghost use Rattle.profile_json.specs.inner.Reading as spec;
 ghost use Rattle.profile_json.specs.inner.View.{said_parts};
 
-use crate::action::default_of;
+use crate::by_entry::EntryRules;
 use crate::contents::Contents;
 use crate::fault::ProfileError;
-use crate::machines::archs_of;
 use crate::overlaps::overlap_of;
-use crate::refused::check_keys;
-use crate::root::root_of;
+use crate::place::read;
 use crate::rules::{Rules, rules_of};
-use crate::syscalls::entries_of;
-use call_tables::Arch;
+use machines::Arch;
 use profile::{BuildError, Profile, in_order};
 use serde_json::Value;
 use std::alloc::Global;
@@ -30,11 +29,15 @@ use std::alloc::Global;
 #[derive(Drop)]
 pub struct Bundle {
     pub profile: Profile,
+    /// The rules that its entries say.
+    pub by_entry: EntryRules,
 }
 
 pub(crate) fn value_of(alloc: Global, text: &[u8], native: Arch) -> Result<Value, ProfileError>
     ensures ok { IfOk result (λ v. IsText text.now (view v)) }
     ensures err { IfErr result (λ e. IfSome (fault_of e) (Breaks text.now native)) }
+    ensures at { IfErr result (λ e. IfSome (fault_of e) (BreaksAt text.now native Text)) }
+    ensures none { IfErr result (λ e. e ≢ OutOfMemory → (t : Data) → ¬ IsText text.now t) }
 {
     match Value::from_slice(alloc, text) {
         Ok(value) => Ok(value),
@@ -48,29 +51,12 @@ pub(crate) fn value_of(alloc: Global, text: &[u8], native: Arch) -> Result<Value
     }
 }
 
-#[tactic(auto, unfolding(crate::specs::inner::Reading::said_of))]
-pub(crate) fn said_of<'a>(
-    alloc: Global,
-    seccomp: &'a Value,
-    native: Arch,
-) -> Result<Contents<'a>, ProfileError>
-    ensures reading { GivesWithMemory said_parts result (spec.said_of native (view seccomp.now)) }
-    ensures native_listed { IfOk result (λ s. list_any (same_arch native) s.archs.items ≡ true) }
-{
-    let family = native.family();
-    let default_word = default_of(seccomp, family)?;
-    check_keys(seccomp, family)?;
-    let archs = archs_of(alloc, seccomp, native)?;
-    let entries = entries_of(alloc, seccomp, family)?;
-    Ok(Contents {
-        default_word,
-        archs,
-        entries,
-    })
-}
-
 /// The profile of the rules that the entries say.
-fn profile_of(alloc: Global, said: &Contents, native: Arch) -> Result<Profile, ProfileError>
+pub(crate) fn profile_of(
+    alloc: Global,
+    said: &Contents,
+    native: Arch,
+) -> Result<Profile, ProfileError>
     requires native_listed { list_any (same_arch native) said.now.archs.items ≡ true }
     requires of_family { AreOfFamily (family_of native) said.now.archs.items }
     ensures ok { IfOk result (IsMade (said_parts said.now) native) }
@@ -96,13 +82,13 @@ fn profile_of(alloc: Global, said: &Contents, native: Arch) -> Result<Profile, P
 pub fn read_bundle(alloc: Global, text: &[u8], native: Arch) -> Result<Bundle, ProfileError>
     // The text is a value, and the profile is what it means.
     ensures ok { IfOk result (λ b. (t : Data) × IsText text.now t × Means t native b.profile) }
+    ensures rules { IfOk result (λ b. AreRulesOf native text.now b.by_entry.rules.items b.by_entry.ends.items) }
 
     // Unless memory ran out, the fault stands in the text.
     ensures err { IfErr result (λ e. IfSome (fault_of e) (Breaks text.now native)) }
 {
-    let value = value_of(alloc, text, native)?;
-    let seccomp = root_of(&value, native)?;
-    let said = said_of(alloc, seccomp, native)?;
-    let profile = profile_of(alloc, &said, native)?;
-    Ok(Bundle { profile })
+    match read(alloc, text, native) {
+        Ok(bundle) => Ok(bundle),
+        Err(told) => Err(told.error),
+    }
 }

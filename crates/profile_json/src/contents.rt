@@ -1,7 +1,7 @@
 //! What a bundle holds, before its rules are made.
 use crate::entry::Entry;
 use call_record::Word;
-use call_tables::Arch;
+use machines::Arch;
 
 /// The default, the machines and the entries of a bundle.
 #[derive(Drop)]

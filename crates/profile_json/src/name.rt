@@ -4,7 +4,8 @@ ghost use Rattle.profile_json.specs.Names as names;
 ghost use Rattle.profile_json.specs.CallName as spec;
 
 use arrayvec::ArrayString;
-use call_tables::Family;
+use call_tables::call_number;
+use machines::Family;
 
 /// Whether some machine of the family has the call, listed or not.
 pub(crate) fn is_known(family: Family, name: &str) -> bool
@@ -13,7 +14,7 @@ pub(crate) fn is_known(family: Family, name: &str) -> bool
     family
         .machines()
         .iter()
-        .any(|arch| arch.number(name).is_some())
+        .any(|arch| call_number(*arch, name).is_some())
 }
 
 /// The longest beginning of a name with at most 64 bytes and whole characters.

@@ -12,7 +12,8 @@ use crate::entry::Entry;
 use crate::fault::ProfileError;
 use crate::name::short_name;
 use crate::rules::rule_of;
-use call_tables::Arch;
+use call_tables::call_number;
+use machines::Arch;
 use profile::overlap;
 
 fn has_name(names: &[&str], name: &str) -> bool
@@ -25,7 +26,7 @@ fn has_name(names: &[&str], name: &str) -> bool
 fn overlap_on(first: &Entry, second: &Entry, name: &str, arch: Arch) -> bool
     ensures { IsTrue result ↔ OverlapOn (entry_parts first.now) (entry_parts second.now) name.now arch }
 {
-    match arch.number(name) {
+    match call_number(arch, name) {
         Some(nr) => overlap(&rule_of(first, arch, nr), &rule_of(second, arch, nr)),
         None => false,
     }

@@ -14,7 +14,7 @@ use crate::key::{
     LISTENER_PATH,
 };
 use crate::lookup::{list_or_empty, text_of, text_or_empty};
-use call_tables::Family;
+use machines::Family;
 use serde_json::Value;
 
 fn no_list(value: &Value, key: &str) -> Result<(), ProfileError>

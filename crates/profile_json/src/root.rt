@@ -3,7 +3,7 @@ ghost use Rattle.std.specs.Prelude.{◌≡◌};
 ghost use Rattle.std.specs.List.{list_any};
 ghost use Rattle.std.specs.Str.{bytes_eq};
 ghost use Rattle.serde_json.specs.View.{view};
-ghost use Rattle.call_tables.specs.Arch.{family_of};
+ghost use Rattle.machines.specs.Arch.{family_of};
 ghost use Rattle.profile_json.specs.Fault.{no_seccomp};
 ghost use Rattle.profile_json.specs.Lookup.{member, object};
 ghost use Rattle.profile_json.specs.Names.{editions};
@@ -15,7 +15,7 @@ use crate::key::{
     LINUX, OCI_VERSION, SECCOMP, VERSION_1_0_2, VERSION_1_1_0, VERSION_1_2_0, VERSION_1_2_1,
 };
 use crate::lookup::{object_of, text_at};
-use call_tables::{Arch, Family};
+use machines::{Arch, Family};
 use serde_json::Value;
 
 /// Whether an edition of the specification is read.

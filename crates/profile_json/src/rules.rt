@@ -1,6 +1,6 @@
 //! The rules that entries say: one for each entry, name and listed machine that has the name.
 ghost use Rattle.std.specs.Prelude.{◌≡◌, ◌++◌, map, IfOk, option_map};
-ghost use Rattle.call_tables.specs.Arch.{table_of};
+ghost use Rattle.call_tables.specs.Tables.{table_of};
 ghost use Rattle.call_tables.specs.Table.{number_in};
 ghost use Rattle.profile_json.specs.inner.View.{entry_parts};
 ghost use Rattle.profile_json.specs.Parts.{rule_parts};
@@ -8,7 +8,8 @@ ghost use Rattle.profile_json.specs.Rules as spec;
 ghost use Rattle.profile_json.specs.Rules.{ends_after};
 
 use crate::entry::Entry;
-use call_tables::Arch;
+use call_tables::call_number;
+use machines::Arch;
 use profile::Rule;
 use std::alloc::{AllocError, Global};
 
@@ -37,7 +38,7 @@ fn add_name(
         ≡ map rule_parts rules.old.items ++ spec.rules_under machines.now (entry_parts entry.now) name.now) }
 {
     for arch in machines {
-        if let Some(nr) = arch.number(name) {
+        if let Some(nr) = call_number(*arch, name) {
             rules.push(rule_of(entry, *arch, nr))?;
         }
     }

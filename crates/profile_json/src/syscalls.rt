@@ -1,24 +1,23 @@
-//! The entries of `syscalls`.
-ghost use Rattle.std.specs.Prelude.{◌≡◌, map};
+//! The names of an entry.
+ghost use Rattle.std.specs.Prelude.{◌≡◌, map, IfErr, IfOk, IfSome, Ok};
 ghost use Rattle.serde_json.specs.View.{view};
-ghost use Rattle.profile_json.specs.inner.View.{entry_parts};
-ghost use Rattle.profile_json.specs.inner.Outcome.{Gives, GivesWithMemory};
+ghost use Rattle.profile_json.specs.Fault.{fault_of};
+ghost use Rattle.profile_json.specs.Place.{MemberBreaksAt, NameBreaksAt};
+ghost use Rattle.profile_json.specs.inner.Outcome.{Gives};
 ghost use Rattle.profile_json.specs.inner.Reading as spec;
 ghost use Rattle.profile_json.specs.Names as names;
 
-use crate::action::verdict_of;
-use crate::argument::args_of;
-use crate::entry::Entry;
 use crate::fault::ProfileError;
-use crate::key::{NAMES, SYSCALLS};
-use crate::lookup::{list_at, list_or_empty, object_of, text_of};
+use crate::key::NAMES;
+use crate::lookup::{list_at, text_of};
 use crate::name::{is_known, short_name};
-use call_tables::Family;
+use crate::refusal::{EntryRefusal, Part, RefusedAt};
+use machines::Family;
 use serde_json::Value;
 use std::alloc::Global;
 
 // How many entries there may be: older engines write an entry for each call.
-fn most_entries(family: Family) -> usize
+pub(crate) fn most_entries(family: Family) -> usize
     ensures { result ≡ names.most_entries family }
 {
     match family {
@@ -49,76 +48,60 @@ fn name_of(value: &Value, family: Family) -> Result<&str, ProfileError>
     }
 }
 
+// The names of a list, or the first value that is none.
 fn names_in<'a>(
     alloc: Global,
     values: &'a [Value],
     family: Family,
-) -> Result<Vec<&'a str>, ProfileError>
-    ensures { GivesWithMemory (λ v. map (λ n. n.now) v.items) result (spec.each (spec.name_of family) (map view values.now)) }
+) -> Result<Vec<&'a str>, RefusedAt>
+    ensures ok { IfOk result (λ v. spec.each (spec.name_of family) (map view values.now) ≡ Ok (map (λ n. n.now) v.items)) }
+    ensures err { IfErr result (λ r. IfSome (fault_of r.error) (NameBreaksAt family (map view values.now) r.at)) }
 {
     let mut found = Vec::new(alloc);
-    for value in values {
-        let name = name_of(value, family)?;
-        found.push(name)?;
+    for (at, value) in values.iter().enumerate() {
+        match name_of(value, family) {
+            Ok(name) => found.push(name)?,
+            Err(error) => return Err(RefusedAt { error, at }),
+        }
     }
     Ok(found)
 }
 
 #[tactic(auto, unfolding(crate::specs::inner::Reading::names_of))]
-fn names_of<'a>(
+pub(crate) fn names_of<'a>(
     alloc: Global,
     entry: &'a Value,
     family: Family,
-) -> Result<Vec<&'a str>, ProfileError>
-    ensures { GivesWithMemory (λ v. map (λ n. n.now) v.items) result (spec.names_of family (view entry.now)) }
+) -> Result<Vec<&'a str>, EntryRefusal>
+    ensures ok { IfOk result (λ v. spec.names_of family (view entry.now) ≡ Ok (map (λ n. n.now) v.items)) }
+    ensures err { IfErr result (λ r. IfSome (fault_of r.error) (MemberBreaksAt family (view entry.now) r.part)) }
 {
-    let values = list_at(entry, NAMES)?;
+    let values = match list_at(entry, NAMES) {
+        Ok(values) => values,
+        Err(error) => {
+            return Err(EntryRefusal {
+                error,
+                part: Part::Names,
+            });
+        }
+    };
     if values.is_empty() {
-        return Err(ProfileError::EmptyNames);
+        return Err(EntryRefusal {
+            error: ProfileError::EmptyNames,
+            part: Part::Names,
+        });
     }
     if values.len() > most_names(family) {
-        return Err(ProfileError::TooMany);
+        return Err(EntryRefusal {
+            error: ProfileError::TooMany,
+            part: Part::Names,
+        });
     }
-    names_in(alloc, values, family)
-}
-
-#[tactic(auto, unfolding(crate::specs::inner::Reading::entry_of))]
-fn entry_of<'a>(alloc: Global, value: &'a Value, family: Family) -> Result<Entry<'a>, ProfileError>
-    ensures { GivesWithMemory entry_parts result (spec.entry_of family (view value.now)) }
-{
-    let entry = object_of(value)?;
-    let names = names_of(alloc, entry, family)?;
-    let word = verdict_of(entry, family)?;
-    let conds = args_of(entry)?;
-    Ok(Entry { names, conds, word })
-}
-
-fn entries_in<'a>(
-    alloc: Global,
-    values: &'a [Value],
-    family: Family,
-) -> Result<Vec<Entry<'a>>, ProfileError>
-    ensures { GivesWithMemory (λ v. map entry_parts v.items) result (spec.each (spec.entry_of family) (map view values.now)) }
-{
-    let mut found = Vec::new(alloc);
-    for value in values {
-        let entry = entry_of(alloc, value, family)?;
-        found.push(entry)?;
+    match names_in(alloc, values, family) {
+        Ok(names) => Ok(names),
+        Err(told) => Err(EntryRefusal {
+            error: told.error,
+            part: Part::Name(told.at),
+        }),
     }
-    Ok(found)
-}
-
-#[tactic(auto, unfolding(crate::specs::inner::Reading::entries_of))]
-pub(crate) fn entries_of<'a>(
-    alloc: Global,
-    seccomp: &'a Value,
-    family: Family,
-) -> Result<Vec<Entry<'a>>, ProfileError>
-    ensures { GivesWithMemory (λ v. map entry_parts v.items) result (spec.entries_of family (view seccomp.now)) }
-{
-    let values = list_or_empty(seccomp, SYSCALLS)?;
-    if values.len() > most_entries(family) {
-        return Err(ProfileError::TooMany);
-    }
-    entries_in(alloc, values, family)
 }

@@ -7,8 +7,9 @@ use crate::words::{
     NUMBER, TOKEN, Words, all_met, argument_of, around, beside, drawn, with, with_argument,
 };
 use call_record::Record;
-use call_tables::{Arch, Numbers};
+use call_tables::call_name;
 use kernel_check::Accepted;
+use machines::{Arch, Numbers};
 use profile::{Profile, Rule, foreign_numbers};
 use std::alloc::{AllocError, Global};
 
@@ -37,7 +38,7 @@ impl Trials<'_> {
             if self.is_over() {
                 break;
             }
-            if arch.name(number).is_some() {
+            if call_name(arch, number).is_some() {
                 self.attempt(&with(words, NUMBER, number))?;
             }
         }

@@ -6,6 +6,7 @@ use crate::words::{NUMBER, TOKEN, Words, pool_of, record_of};
 use crate::work::Work;
 use bpf_insn::{MAX_INSNS, Operation};
 use call_record::Record;
+use call_tables::call_name;
 use kernel_check::Accepted;
 use std::alloc::{AllocError, Global};
 
@@ -122,7 +123,7 @@ impl<'a> Trials<'a> {
     // Whether a record is a call of the tables of the profile's machines.
     fn is_listed(&self, call: &Record) -> bool {
         let machines = self.rules.profile.machines();
-        machines.iter().any(|arch| arch.token() == call.arch && arch.name(call.nr).is_some())
+        machines.iter().any(|arch| arch.token() == call.arch && call_name(*arch, call.nr).is_some())
     }
 
     /// Tries the record of these words.

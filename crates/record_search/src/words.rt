@@ -2,8 +2,8 @@
 
 use bpf_insn::{MAX_INSNS, Operation};
 use call_record::{Record, halves};
-use call_tables::compared;
 use kernel_check::Accepted;
+use machines::compared;
 use profile::{Cond, Op, Rule};
 use std::alloc::{AllocError, Global};
 

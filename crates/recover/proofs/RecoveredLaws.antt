@@ -1,6 +1,6 @@
 -- A certificate shows that a bundle's meaning is the filter's.
 use Rattle.std.proofs.Common.{ℕ, List}
-use Rattle.call_tables.specs.declared.arch.Arch.{Arch}
+use Rattle.machines.specs.declared.arch.Arch.{Arch}
 use Rattle.bpf_insn.specs.declared.fault.ViewError.TheVariants.{NotMultipleOf8}
 use Rattle.cert_check.specs.declared.fault.CheckError.TheVariants.{View}
 use Rattle.profile.specs.Policy.{Policy}

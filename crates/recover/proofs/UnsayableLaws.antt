@@ -10,11 +10,11 @@ use Rattle.call_record.specs.declared.layout.Record.{Record}
 use Rattle.call_record.specs.Record.{words}
 use Rattle.call_record.specs.Words.{word}
 use Rattle.call_record.proofs.RecordLemmas.{argument-words_from}
-use Rattle.call_tables.specs.Arch.{family_of, machines_of, same_arch, token_of}
-use Rattle.call_tables.specs.declared.arch.Arch.{Arch}
-use Rattle.call_tables.specs.declared.arch.Family.{Family}
-use Rattle.call_tables.specs.Numbers.{has_call}
-use Rattle.call_tables.specs.Width.{compared, is_narrow}
+use Rattle.machines.specs.Arch.{family_of, machines_of, same_arch, token_of}
+use Rattle.machines.specs.declared.arch.Arch.{Arch}
+use Rattle.machines.specs.declared.arch.Family.{Family}
+use Rattle.machines.specs.Numbers.{has_call}
+use Rattle.machines.specs.Width.{compared, is_narrow}
 use Rattle.bpf_insn.specs.Bytes.{insns_of}
 use Rattle.profile.specs.Policy.{Policy}
 use Rattle.profile.specs.Rule.{argument_of}

@@ -1,6 +1,6 @@
 -- What a bundle is that was made of a filter.
 use Rattle.std.specs.Prelude.{◌≡◌, ℕ, List, None}
-use Rattle.call_tables.specs.declared.arch.Arch.{Arch}
+use Rattle.machines.specs.declared.arch.Arch.{Arch}
 use Rattle.bpf_insn.specs.Bytes.{insns_of, view_fault}
 use Rattle.kernel_check.specs.Accepted.{IsAccepted}
 use Rattle.profile.specs.Policy.{Policy}

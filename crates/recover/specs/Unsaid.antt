@@ -6,12 +6,13 @@ use Rattle.call_record.specs.declared.layout.Record.{Record}
 use Rattle.call_record.specs.Record.{words}
 use Rattle.call_record.specs.Words.{IsRecord}
 use Rattle.call_record.specs.Verdict.{action, allow, datum, errno, kill_process, kill_thread, log, trace, trap, user_notif}
-use Rattle.call_tables.specs.Arch.{family_of, table_of}
-use Rattle.call_tables.specs.declared.arch.Arch.{Arch}
-use Rattle.call_tables.specs.declared.arch.Family.{Family}
-use Rattle.call_tables.specs.Numbers.{IsOwn}
+use Rattle.machines.specs.Arch.{family_of}
+use Rattle.call_tables.specs.Tables.{table_of}
+use Rattle.machines.specs.declared.arch.Arch.{Arch}
+use Rattle.machines.specs.declared.arch.Family.{Family}
+use Rattle.machines.specs.Numbers.{IsOwn}
 use Rattle.call_tables.specs.Table.{name_in}
-use Rattle.call_tables.specs.Width.{compared, is_narrow}
+use Rattle.machines.specs.Width.{compared, is_narrow}
 use Rattle.bpf_insn.specs.Bytes.{insns_of, view_fault}
 use Rattle.bpf_insn.specs.declared.instruction.Insn.{Insn}
 use Rattle.bpf_insn.specs.Machine.{verdict_of}

@@ -1,15 +1,17 @@
 //! What is said of one call.
 use crate::cells::Cell;
 use crate::classes::{Grain, words_of};
+use crate::covering::Taste;
 use crate::leaves::{Called, Leaf, apart, record_of, settled};
 use crate::paths::paths_of;
 use crate::said::{Manner, Said, only_word, said_of};
 use crate::text::is_given;
 use crate::unsaid::{Shown, Unsaid};
+use crate::work::{Stopped, Work};
 use bpf_interp::verdict;
 use call_record::{Record, Word};
-use call_tables::is_narrow;
 use kernel_check::Accepted;
+use machines::is_narrow;
 use std::alloc::{AllocError, Global};
 
 /// What is said of a call, and the ways through the filter that it was found from.
@@ -58,17 +60,6 @@ fn refuse_words(program: &Accepted<'_>, leaves: &[Leaf]) -> Result<(), Unsaid> {
     Ok(())
 }
 
-// How many ways of a call to unlike verdicts are looked at.
-const MOST_WAYS: usize = 1 << 12;
-
-// Refuses a call that goes more ways to unlike verdicts.
-fn refuse_many(leaves: &[Leaf]) -> Result<(), Unsaid> {
-    if leaves.len() > MOST_WAYS && only_word(leaves).is_none() {
-        return Err(Unsaid::TooLarge);
-    }
-    Ok(())
-}
-
 // The leaves that have not all numbers of a word.
 fn telling(alloc: Global, leaves: &[Leaf], word: u8) -> Result<Vec<Leaf>, AllocError> {
     let mut found = Vec::new(alloc);
@@ -83,12 +74,13 @@ fn telling(alloc: Global, leaves: &[Leaf], word: u8) -> Result<Vec<Leaf>, AllocE
 // Two calls that differ in one word alone, with unlike verdicts. No record goes two ways, so neither way has all numbers of the word.
 fn two_apart(
     alloc: Global,
+    work: &mut Work,
     program: &Accepted<'_>,
     leaves: &[Leaf],
     word: u8,
-) -> Result<Option<(Shown, Shown)>, AllocError> {
+) -> Result<Option<(Shown, Shown)>, Stopped> {
     let found = telling(alloc, leaves, word)?;
-    let Some((one, other)) = apart(&found, word) else {
+    let Some((one, other)) = apart(work, &found, word)? else {
         return Ok(None);
     };
     Ok(Some((show(program, one), show(program, other))))
@@ -97,15 +89,16 @@ fn two_apart(
 // The leaves with a 0 in the instruction pointer, if no verdict depends on it.
 fn without_pointer(
     alloc: Global,
+    work: &mut Work,
     program: &Accepted<'_>,
     leaves: Vec<Leaf>,
 ) -> Result<Vec<Leaf>, Unsaid> {
     let mut left = leaves;
     for word in [2u8, 3] {
-        if let Some((one, other)) = two_apart(alloc, program, &left, word)? {
+        if let Some((one, other)) = two_apart(alloc, work, program, &left, word)? {
             return Err(Unsaid::Pointer(one, other));
         }
-        left = settled(alloc, &left, word, Cell::ALL)?;
+        left = settled(alloc, work, &left, word, Cell::ALL)?;
     }
     Ok(left)
 }
@@ -113,48 +106,77 @@ fn without_pointer(
 // The leaves with a 0 in the upper half of each argument, if no verdict depends on these.
 fn without_upper(
     alloc: Global,
+    work: &mut Work,
     program: &Accepted<'_>,
     leaves: Vec<Leaf>,
 ) -> Result<Vec<Leaf>, Unsaid> {
     let mut left = leaves;
     for index in 0..6u8 {
         let (_low, high) = words_of(index);
-        if let Some((one, other)) = two_apart(alloc, program, &left, high)? {
+        if let Some((one, other)) = two_apart(alloc, work, program, &left, high)? {
             return Err(Unsaid::HighHalf(one, other));
         }
-        left = settled(alloc, &left, high, Cell::ZERO)?;
+        left = settled(alloc, work, &left, high, Cell::ZERO)?;
     }
     Ok(left)
 }
 
-// The ways of a call through the filter, as far as a section may tell them apart.
-fn leaves_of(alloc: Global, program: &Accepted<'_>, call: Called) -> Result<Vec<Leaf>, Unsaid> {
-    let Some(paths) = paths_of(alloc, program, call)? else {
-        return Err(Unsaid::TooLarge);
-    };
+// One leaf of all records.
+fn always(alloc: Global, word: u32) -> Result<Vec<Leaf>, AllocError> {
+    let mut found = Vec::new(alloc);
+    found.push(Leaf {
+        cells: [Cell::ALL; 16],
+        word,
+    })?;
+    Ok(found)
+}
+
+// The leaves of any machine and number.
+fn of_any_call(alloc: Global, leaves: &[Leaf]) -> Result<Vec<Leaf>, AllocError> {
+    let mut found = Vec::new(alloc);
+    for leaf in leaves {
+        found.push(leaf.with(0, Cell::ALL).with(1, Cell::ALL))?;
+    }
+    Ok(found)
+}
+
+/// The ways of a call through the filter, as far as a section may tell them apart. They are told as those of any call.
+pub(crate) fn leaves_of(
+    alloc: Global,
+    work: &mut Work,
+    program: &Accepted<'_>,
+    call: Called,
+) -> Result<Vec<Leaf>, Unsaid> {
+    let paths = paths_of(alloc, work, program, call)?;
     if !paths.are_all {
         return Err(Unsaid::Unfollowed(show(program, plain_record(call))));
     }
     refuse_words(program, &paths.leaves)?;
-    refuse_many(&paths.leaves)?;
-    let leaves = without_pointer(alloc, program, paths.leaves)?;
-    if is_narrow(call.token) {
-        return without_upper(alloc, program, leaves);
+    if let Some(word) = only_word(&paths.leaves) {
+        return Ok(always(alloc, word)?);
     }
-    Ok(leaves)
+    let mut leaves = without_pointer(alloc, work, program, paths.leaves)?;
+    if is_narrow(call.token) {
+        leaves = without_upper(alloc, work, program, leaves)?;
+    }
+    Ok(of_any_call(alloc, &leaves)?)
 }
 
-/// What is said of a call, beside a default verdict.
+/// What is said of a call that goes these ways, beside a default verdict.
 pub(crate) fn hear(
     alloc: Global,
+    work: &mut Work,
     program: &Accepted<'_>,
-    call: Called,
-    default: u32,
+    (call, leaves): (Called, Vec<Leaf>),
+    (default, taste): (u32, Taste),
 ) -> Result<Heard, Unsaid> {
-    let leaves = leaves_of(alloc, program, call)?;
     for grain in [Grain::Ways, Grain::Cells, Grain::Blocks] {
-        let manner = Manner { default, grain };
-        if let Some(said) = said_of(alloc, &leaves, manner, 6)? {
+        let manner = Manner {
+            default,
+            grain,
+            taste,
+        };
+        if let Some(said) = said_of(alloc, work, &leaves, manner, 6)? {
             return Ok(Heard { said, leaves });
         }
     }

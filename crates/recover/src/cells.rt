@@ -41,6 +41,9 @@ impl Cell {
     /// The least of the numbers from one on.
     pub(crate) fn least_from(self, from: u32) -> Option<u32> {
         let from = if from < self.first { self.first } else { from };
+        if self.mask == 0 && self.datum == 0 {
+            return if from <= self.last { Some(from) } else { None };
+        }
         let mask = u64::from(self.mask);
         let datum = u64::from(self.datum);
         let least = least_below(32, u64::from(from), mask, datum)?;
@@ -120,10 +123,31 @@ impl Cell {
             .least()
     }
 
+    // Whether the highest bits, in which all numbers within the bounds are alike, are other ones than those under the mask.
+    fn is_outside(self) -> bool {
+        let above = (self.first ^ self.last).leading_zeros();
+        let unlike = u32::MAX.checked_shr(above).unwrap_or(0);
+        (self.first ^ self.datum) & self.mask & !unlike != 0
+    }
+
+    // Whether the first number that lies within the bounds, or the last, is one of them once its bits under the mask are set.
+    fn has_bound(self) -> bool {
+        self.contains(self.first & !self.mask | self.datum)
+            || self.contains(self.last & !self.mask | self.datum)
+    }
+
+    // Whether there is a number.
+    fn has_some(self) -> bool {
+        if self.is_outside() {
+            return false;
+        }
+        self.has_bound() || self.least().is_some()
+    }
+
     /// Whether one of the numbers has these bits under a mask.
     pub(crate) fn meets(self, mask: u32, datum: u32) -> bool {
         match self.under(mask, datum) {
-            Some(cell) => cell.least().is_some(),
+            Some(cell) => cell.has_some(),
             None => false,
         }
     }
@@ -146,7 +170,7 @@ pub(crate) fn push_within(
         && first <= last
     {
         let part = cell.within(first, last);
-        if part.least().is_some() {
+        if part.has_some() {
             found.push(part)?;
         }
     }
@@ -161,7 +185,7 @@ pub(crate) fn push_under(
     datum: u32,
 ) -> Result<(), AllocError> {
     if let Some(part) = cell.under(mask, datum)
-        && part.least().is_some()
+        && part.has_some()
     {
         found.push(part)?;
     }

@@ -1,6 +1,6 @@
 //! Filters that are no bundle's.
 ghost use Rattle.std.specs.Prelude.{ℕ, List};
-ghost use Rattle.call_tables.specs.declared.arch.Arch.{Arch as TheArch};
+ghost use Rattle.machines.specs.declared.arch.Arch.{Arch as TheArch};
 ghost use Rattle.recover.specs.declared.unsaid.Shown.{Shown as TheShown};
 ghost use Rattle.recover.specs.declared.unsaid.Unsaid.TheVariants as why;
 ghost use Rattle.recover.specs.Recovered.{IsUnsayable};

@@ -1,7 +1,9 @@
 //! Calls that go one way through a filter.
 use crate::cells::Cell;
-use call_record::Record;
-use std::alloc::{AllocError, Global};
+use crate::classes::words_of;
+use crate::work::{Stopped, Work};
+use call_record::{Record, halves};
+use std::alloc::Global;
 
 /// A call of a machine.
 #[derive(Clone, Copy)]
@@ -11,16 +13,29 @@ pub(crate) struct Called {
 }
 
 /// Records that go one way through the filter, by the numbers of each word, and the verdict at its end.
-#[derive(Clone, Copy)]
+#[derive(Clone, Copy, PartialEq, Eq)]
 pub(crate) struct Leaf {
     pub(crate) cells: [Cell; 16],
     pub(crate) word: u32,
 }
 
+// How many steps it takes to compare two leaves.
+const STEPS: usize = 4;
+
+// The first word of the first argument.
+const ARGUMENTS: u8 = 4;
+
 impl Leaf {
     /// The numbers of a word.
     pub(crate) fn cell(&self, word: u8) -> Cell {
         self.cells.get(word as usize).copied().unwrap_or(Cell::ALL)
+    }
+
+    /// Whether a number of an argument is one of those of the leaf.
+    pub(crate) fn has(&self, index: u8, number: u64) -> bool {
+        let (low, high) = words_of(index);
+        let (below, above) = halves(number);
+        self.cell(low).contains(below) && self.cell(high).contains(above)
     }
 
     /// The same records, but with these numbers of a word.
@@ -32,9 +47,10 @@ impl Leaf {
         leaf
     }
 
-    // Whether some records are of both, or are so in all words but one.
+    // Whether some records are of both, or are so in all words but one. The words of arguments tell most leaves apart.
     fn meets_but(&self, other: &Leaf, word: Option<u8>) -> bool {
-        for at in 0..16u8 {
+        for step in 0..16u8 {
+            let at = ARGUMENTS.wrapping_add(step) % 16;
             if word != Some(at) && !self.cell(at).meets_cell(other.cell(at)) {
                 return false;
             }
@@ -103,34 +119,61 @@ fn other_verdict(leaves: &[Leaf], leaf: &Leaf, word: u8) -> Option<Leaf> {
 }
 
 /// Two records that differ in one word alone, and end with unlike verdicts.
-pub(crate) fn apart(leaves: &[Leaf], word: u8) -> Option<(Record, Record)> {
+pub(crate) fn apart(
+    work: &mut Work,
+    leaves: &[Leaf],
+    word: u8,
+) -> Result<Option<(Record, Record)>, Stopped> {
     for leaf in leaves {
+        work.spend_each(leaves.len(), STEPS)?;
         if let Some(other) = other_verdict(leaves, leaf, word) {
             let one = common_record(leaf, &other, word);
-            return Some((one, common_record(&other, leaf, word)));
+            return Ok(Some((one, common_record(&other, leaf, word))));
         }
     }
-    None
+    Ok(None)
 }
 
 /// Whether all records that are of both lists end with one verdict.
-pub(crate) fn say_the_same(some: &[Leaf], others: &[Leaf]) -> bool {
-    some.iter().all(|leaf| {
-        others.iter().all(|other| leaf.word == other.word || !leaf.meets_but(other, None))
-    })
+pub(crate) fn say_the_same(
+    work: &mut Work,
+    some: &[Leaf],
+    others: &[Leaf],
+) -> Result<bool, Stopped> {
+    for leaf in some {
+        work.spend_each(others.len(), STEPS)?;
+        if others.iter().any(|other| leaf.word != other.word && leaf.meets_but(other, None)) {
+            return Ok(false);
+        }
+    }
+    Ok(true)
+}
+
+/// Adds a leaf that is not there yet.
+pub(crate) fn push_leaf(work: &mut Work, found: &mut Vec<Leaf>, leaf: Leaf) -> Result<(), Stopped> {
+    work.spend_each(found.len(), STEPS)?;
+    if !found.iter().any(|other| *other == leaf) {
+        found.push(leaf)?;
+    }
+    Ok(())
 }
 
 /// The leaves with a 0 in a word on which no verdict depends, with these numbers in it.
 pub(crate) fn settled(
     alloc: Global,
+    work: &mut Work,
     leaves: &[Leaf],
     word: u8,
     cell: Cell,
-) -> Result<Vec<Leaf>, AllocError> {
+) -> Result<Vec<Leaf>, Stopped> {
     let mut found = Vec::new(alloc);
+    if leaves.iter().all(|leaf| leaf.cell(word) == cell) {
+        found.extend_from_slice(leaves)?;
+        return Ok(found);
+    }
     for leaf in leaves {
         if leaf.cell(word).contains(0) {
-            found.push(leaf.with(word, cell))?;
+            push_leaf(work, &mut found, leaf.with(word, cell))?;
         }
     }
     Ok(found)

@@ -14,8 +14,9 @@ mod draft;
 mod entries;
 mod law;
 mod leaves;
-mod machines;
+mod machine_tests;
 mod marks;
+mod masking;
 mod names;
 mod numbers;
 mod passed;
@@ -29,6 +30,7 @@ mod telling;
 mod text;
 mod unlike;
 mod unsaid;
+mod work;
 
 pub use law::such_filters_are_no_bundles;
 pub use passed::Passed;

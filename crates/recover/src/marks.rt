@@ -1,6 +1,7 @@
 //! Sets of numbers of a word that a filter tells from all others.
 use crate::asked::Asked;
 use crate::cells::{Cell, push_others, push_under, push_within};
+use crate::work::{Stopped, Work};
 use std::alloc::{AllocError, Global};
 
 /// Numbers of a word that the filter tells from all others.
@@ -14,7 +15,8 @@ pub(crate) struct Mark {
 const MOST: usize = 1 << 12;
 
 /// Adds a mark that is not there yet.
-pub(crate) fn push_mark(marks: &mut Vec<Mark>, mark: Mark) -> Result<(), AllocError> {
+pub(crate) fn push_mark(work: &mut Work, marks: &mut Vec<Mark>, mark: Mark) -> Result<(), Stopped> {
+    work.spend(marks.len())?;
     if mark.cell != Cell::ALL && !marks.iter().any(|other| *other == mark) {
         marks.push(mark)?;
     }
@@ -22,7 +24,11 @@ pub(crate) fn push_mark(marks: &mut Vec<Mark>, mark: Mark) -> Result<(), AllocEr
 }
 
 /// The marks of comparisons: of each the numbers of which it holds.
-pub(crate) fn marks_of(alloc: Global, asked: &[Asked]) -> Result<Vec<Mark>, AllocError> {
+pub(crate) fn marks_of(
+    alloc: Global,
+    work: &mut Work,
+    asked: &[Asked],
+) -> Result<Vec<Mark>, Stopped> {
     let mut marks = Vec::new(alloc);
     for one in asked {
         let mut cells = Vec::new(alloc);
@@ -32,7 +38,7 @@ pub(crate) fn marks_of(alloc: Global, asked: &[Asked]) -> Result<Vec<Mark>, Allo
                 word: one.word,
                 cell: *cell,
             };
-            push_mark(&mut marks, mark)?;
+            push_mark(work, &mut marks, mark)?;
         }
     }
     Ok(marks)
@@ -52,6 +58,17 @@ pub(crate) fn bits_of(marks: &[Mark], word: u8) -> u32 {
     bits
 }
 
+/// The bits of a word that marks compare under a mask.
+pub(crate) fn masked_bits_of(marks: &[Mark], word: u8) -> u32 {
+    let mut bits = 0u32;
+    for mark in marks {
+        if mark.word == word {
+            bits |= mark.cell.mask;
+        }
+    }
+    bits
+}
+
 // Adds the parts of a cell that a mark tells apart.
 fn push_parts(found: &mut Vec<Cell>, cell: Cell, mark: Cell) -> Result<(), AllocError> {
     push_within(found, cell, Some(0), mark.first.checked_sub(1))?;
@@ -61,68 +78,65 @@ fn push_parts(found: &mut Vec<Cell>, cell: Cell, mark: Cell) -> Result<(), Alloc
     push_under(found, inside, mark.mask, mark.datum)
 }
 
-// Adds parts of a cell, and a number. Each part has the same bits under some mask as the number, but for the lowest of these bits.
-fn push_blocks(found: &mut Vec<Cell>, cell: Cell, number: Option<u32>) -> Result<(), AllocError> {
-    match number {
-        Some(number) => {
-            push_others(found, cell, u32::MAX, number)?;
-            push_under(found, cell, u32::MAX, number)
-        }
-        None => push_under(found, cell, 0, 0),
-    }
-}
-
-// The bounds of a mark at which blocks begin and end.
-fn bounds_of(mark: Cell) -> [Option<u32>; 2] {
-    let first = if mark.first == 0 {
-        None
-    } else {
-        Some(mark.first)
-    };
-    [first, mark.last.checked_add(1)]
-}
+// How many steps it takes to cut a cell: one for each bit, and for what lies before it and behind it.
+const STEPS: usize = 40;
 
 // The parts of cells that a mark tells apart.
-fn split(
-    alloc: Global,
-    cells: &[Cell],
-    mark: Cell,
-    is_dense: bool,
-) -> Result<Vec<Cell>, AllocError> {
+fn split(alloc: Global, work: &mut Work, cells: &[Cell], mark: Cell) -> Result<Vec<Cell>, Stopped> {
+    work.spend(cells.len())?;
     let mut parts = Vec::new(alloc);
     for cell in cells {
-        push_parts(&mut parts, *cell, mark)?;
-    }
-    if !is_dense {
-        return Ok(parts);
-    }
-    for bound in bounds_of(mark) {
-        let mut blocks = Vec::new(alloc);
-        for cell in &parts {
-            push_blocks(&mut blocks, *cell, bound)?;
+        if cell.meets_cell(mark) {
+            work.spend(STEPS)?;
+            push_parts(&mut parts, *cell, mark)?;
+        } else {
+            parts.push(*cell)?;
         }
-        parts = blocks;
     }
     Ok(parts)
 }
 
-/// Cells of all numbers of a word, of which each lies in every mark or outside of it, if they are not too many. Where they are dense, the
-/// numbers of each have the same bits under some mask, and are all that have.
+/// Cells of all numbers of a word, of which each lies in every mark or outside of it, if they are not too many.
 pub(crate) fn cells_of(
     alloc: Global,
+    work: &mut Work,
     marks: &[Mark],
     word: u8,
-    is_dense: bool,
-) -> Result<Option<Vec<Cell>>, AllocError> {
+) -> Result<Option<Vec<Cell>>, Stopped> {
     let mut cells = Vec::new(alloc);
     cells.push(Cell::ALL)?;
     for mark in marks {
         if mark.word == word {
-            cells = split(alloc, &cells, mark.cell, is_dense)?;
+            cells = split(alloc, work, &cells, mark.cell)?;
             if cells.len() > MOST {
                 return Ok(None);
             }
         }
     }
     Ok(Some(cells))
+}
+
+// The parts of cells by the highest bit in which a number is another than this one, and the number itself.
+fn cut_at(alloc: Global, cells: &[Cell], number: u32) -> Result<Vec<Cell>, AllocError> {
+    let mut parts = Vec::new(alloc);
+    for cell in cells {
+        push_others(&mut parts, *cell, u32::MAX, number)?;
+        push_under(&mut parts, *cell, u32::MAX, number)?;
+    }
+    Ok(parts)
+}
+
+/// The parts of a cell of which each has the same bits under some mask, and all numbers that have.
+pub(crate) fn blocks_of(alloc: Global, work: &mut Work, cell: Cell) -> Result<Vec<Cell>, Stopped> {
+    let mut blocks = Vec::new(alloc);
+    blocks.push(cell)?;
+    if cell.first != 0 {
+        work.spend(STEPS)?;
+        blocks = cut_at(alloc, &blocks, cell.first)?;
+    }
+    if let Some(behind) = cell.last.checked_add(1) {
+        work.spend_each(blocks.len(), STEPS)?;
+        blocks = cut_at(alloc, &blocks, behind)?;
+    }
+    Ok(blocks)
 }

@@ -1,12 +1,15 @@
 //! What is said of each name.
-use crate::calls::{Heard, hear};
+use crate::calls::{Heard, hear, leaves_of};
+use crate::covering::Taste;
 use crate::leaves::Called;
-use crate::machines::Listed;
+use crate::machine_tests::Listed;
 use crate::said::Said;
 use crate::unlike::{Side, unlike};
 use crate::unsaid::Unsaid;
-use call_tables::is_narrow;
+use crate::work::Work;
+use call_tables::call_name;
 use kernel_check::Accepted;
+use machines::is_narrow;
 use std::alloc::Global;
 
 /// A name, and what is said of its call on one machine. Of the machines that have it, this is one with arguments of 64 bits,
@@ -43,11 +46,13 @@ fn greatest(one: Called, other: Called) -> u64 {
 // Joins what is said of the call of another machine with the same name.
 fn join(
     alloc: Global,
+    work: &mut Work,
     program: &Accepted<'_>,
     known: &mut Named,
     call: Called,
     other: Heard,
 ) -> Result<(), Unsaid> {
+    work.spend(other.said.len())?;
     if known.heard.said == other.said {
         return Ok(());
     }
@@ -56,7 +61,7 @@ fn join(
         leaves: &other.leaves,
     };
     let most = greatest(known.call, call);
-    if let Some((one, other)) = unlike(alloc, program, known.side(), side, most)? {
+    if let Some((one, other)) = unlike(alloc, work, program, (known.side(), side), most)? {
         return Err(Unsaid::UnlikeMachines(one, other));
     }
     if is_narrow(known.call.token) {
@@ -69,24 +74,30 @@ fn join(
 // Adds a call of a machine.
 fn push_call(
     alloc: Global,
+    work: &mut Work,
     program: &Accepted<'_>,
     found: &mut Vec<Named>,
     (machine, number): (&Listed, u32),
-    default: u32,
+    manner: (u32, Taste),
 ) -> Result<(), Unsaid> {
-    let Some(name) = machine.arch.name(number) else {
+    let Some(name) = call_name(machine.arch, number) else {
         return Ok(());
     };
     let call = Called {
         token: machine.arch.token(),
         number,
     };
-    let heard = hear(alloc, program, call, default)?;
+    let leaves = leaves_of(alloc, work, program, call)?;
     for known in found.iter_mut() {
         if known.name == name {
-            return join(alloc, program, known, call, heard);
+            if known.heard.leaves == leaves {
+                return Ok(());
+            }
+            let heard = hear(alloc, work, program, (call, leaves), manner)?;
+            return join(alloc, work, program, known, call, heard);
         }
     }
+    let heard = hear(alloc, work, program, (call, leaves), manner)?;
     found.push(Named { name, call, heard })?;
     Ok(())
 }
@@ -94,14 +105,15 @@ fn push_call(
 /// What is said of each name of a call of these machines.
 pub(crate) fn names_of(
     alloc: Global,
+    work: &mut Work,
     program: &Accepted<'_>,
     machines: &[Listed],
-    default: u32,
+    manner: (u32, Taste),
 ) -> Result<Vec<Named>, Unsaid> {
     let mut found = Vec::new(alloc);
     for machine in machines {
         for number in &machine.named {
-            push_call(alloc, program, &mut found, (machine, *number), default)?;
+            push_call(alloc, work, program, &mut found, (machine, *number), manner)?;
         }
     }
     Ok(found)

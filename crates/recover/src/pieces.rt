@@ -8,8 +8,8 @@ use profile::{Cond, Op};
 /// The numbers whose halves are of two cells, and the class that they are of.
 #[derive(Clone, Copy)]
 pub(crate) struct Piece {
-    low: Cell,
-    high: Cell,
+    pub(crate) low: Cell,
+    pub(crate) high: Cell,
     pub(crate) class: usize,
     pub(crate) least: u64,
     pub(crate) greatest: u64,

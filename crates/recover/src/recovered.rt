@@ -1,21 +1,48 @@
 //! From a filter to the bundle whose meaning is the filter's.
 ghost use Rattle.std.specs.Prelude.{◌≡◌, ℕ, List, IfOk, IfErr, None, string_bytes};
 ghost use Rattle.bpf_insn.specs.Bytes.{insns_of, view_fault};
-ghost use Rattle.call_tables.specs.declared.arch.Arch.{Arch as TheArch};
+ghost use Rattle.machines.specs.declared.arch.Arch.{Arch as TheArch};
 ghost use Rattle.kernel_check.specs.Accepted.{IsAccepted};
 ghost use Rattle.maker.specs.Certified.{IsEvidenceFor, IsJudgement};
 ghost use Rattle.recover.specs.Recovered.{IsRecovered};
 ghost use Rattle.recover.specs.Unsaid.{IsUnsaid};
 
+use crate::covering::Taste;
 use crate::draft::drafted;
 use crate::passed::Passed;
 use crate::seen::seen;
 use crate::unsaid::Unsaid;
 use bpf_insn::Program;
-use call_tables::Arch;
 use kernel_check::accept;
+use machines::Arch;
 use maker::{Evidence, Unready, judge_bundle};
+use profile_json::Document;
 use std::alloc::Global;
+
+// The bundle that seems to say what the filter of these bytes answers, but of calls that are passed over, with masks of one kind.
+fn draft_by(
+    alloc: Global,
+    native: Arch,
+    filter: &[u8],
+    passed: Passed,
+    taste: Taste,
+) -> Result<String, Unsaid>
+    ensures program { IfOk result (λ _. view_fault filter.now ≡ None) }
+    ensures accepted { IfOk result (λ _. IsAccepted (insns_of filter.now)) }
+    ensures reason { IfErr result (IsUnsaid native filter.now) }
+{
+    let program = match Program::view(filter) {
+        Ok(program) => program,
+        Err(fault) => return Err(Unsaid::View(fault)),
+    };
+    match accept(&program) {
+        Ok(accepted) => match drafted(alloc, native, &accepted, passed, taste) {
+            Ok(bundle) => Ok(bundle),
+            Err(found) => Err(seen(&accepted, native.family(), found)),
+        },
+        Err(refused) => Err(Unsaid::Kernel(refused)),
+    }
+}
 
 /// The bundle that seems to say what the filter of these bytes answers, but of calls that are passed over. It is not judged here.
 pub fn draft_of(
@@ -28,17 +55,7 @@ pub fn draft_of(
     ensures accepted { IfOk result (λ _. IsAccepted (insns_of filter.now)) }
     ensures reason { IfErr result (IsUnsaid native filter.now) }
 {
-    let program = match Program::view(filter) {
-        Ok(program) => program,
-        Err(fault) => return Err(Unsaid::View(fault)),
-    };
-    match accept(&program) {
-        Ok(accepted) => match drafted(alloc, native, &accepted, passed) {
-            Ok(bundle) => Ok(bundle),
-            Err(found) => Err(seen(&accepted, native.family(), found)),
-        },
-        Err(refused) => Err(Unsaid::Kernel(refused)),
-    }
+    draft_by(alloc, native, filter, passed, Taste::First)
 }
 
 // The bundle, if the evidence on it and the filter is a certificate, or what convicts the filter.
@@ -68,13 +85,34 @@ fn handed_out_if_judged(judged: Result<Evidence, Unready>, bundle: String) -> Re
     }
 }
 
+// The bundle whose meaning is the filter's, with masks of one kind, or what no section says of it.
+fn recover_by(alloc: Global, native: Arch, filter: &[u8], taste: Taste) -> Result<String, Unsaid>
+    ensures recovered { IfOk result (λ bundle. IsRecovered native (string_bytes bundle) filter.now) }
+    ensures reason { IfErr result (IsUnsaid native filter.now) }
+{
+    let bundle = draft_by(alloc, native, filter, Passed::NONE, taste)?;
+    let Ok(text) = Vec::from_slice(alloc, bundle.as_bytes()) else {
+        return Err(Unsaid::OutOfMemory);
+    };
+    let document = Document::new(alloc, text, native);
+    let judged = judge_bundle(alloc, &document, filter);
+    handed_out_if_judged(judged, bundle)
+}
+
 /// The bundle whose meaning is the filter's, or what no section says of it. What is written is read again, and handed out only with a
-/// certificate.
+/// certificate. If it is not decided, masks of another kind are tried.
 pub fn recover(alloc: Global, native: Arch, filter: &[u8]) -> Result<String, Unsaid>
     ensures recovered { IfOk result (λ bundle. IsRecovered native (string_bytes bundle) filter.now) }
     ensures reason { IfErr result (IsUnsaid native filter.now) }
 {
-    let bundle = draft_of(alloc, native, filter, Passed::NONE)?;
-    let judged = judge_bundle(alloc, native, bundle.as_bytes(), filter);
-    handed_out_if_judged(judged, bundle)
+    match recover_by(alloc, native, filter, Taste::First) {
+        Ok(bundle) => Ok(bundle),
+        Err(Unsaid::Undecided(unready)) => {
+            match recover_by(alloc, native, filter, Taste::Second) {
+                Ok(bundle) => Ok(bundle),
+                Err(_) => Err(Unsaid::Undecided(unready)),
+            }
+        }
+        Err(unsaid) => Err(unsaid),
+    }
 }

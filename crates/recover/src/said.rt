@@ -1,8 +1,9 @@
 //! What the entries of a call say: verdicts under conditions.
 use crate::classes::{Argument, Classes, Grain, classes_of};
-use crate::covering::{Aim, covering};
+use crate::covering::{Aim, Taste, covering};
 use crate::leaves::Leaf;
 use crate::pieces::Piece;
+use crate::work::{Stopped, Work};
 use profile::Cond;
 use std::alloc::{AllocError, Global};
 
@@ -18,6 +19,7 @@ pub(crate) struct Said {
 pub(crate) struct Manner {
     pub(crate) default: u32,
     pub(crate) grain: Grain,
+    pub(crate) taste: Taste,
 }
 
 // What is said for some classes of an argument: those for which it was found, and those for which it is true.
@@ -34,18 +36,30 @@ fn meets(leaf: &Leaf, said: &Said) -> bool {
         .all(|cond| Piece::of_leaf(leaf, cond.index).may_meet(cond))
 }
 
+// How many steps it takes to ask a condition of a leaf.
+const STEPS: usize = 8;
+
 // Whether what is said is true of leaves.
-fn is_true(leaves: &[Leaf], said: &Said) -> bool {
-    leaves
-        .iter()
-        .all(|leaf| leaf.word == said.word || !meets(leaf, said))
+fn is_true(work: &mut Work, leaves: &[Leaf], said: &Said) -> Result<bool, Stopped> {
+    for leaf in leaves {
+        work.spend_each(said.conds.len().saturating_add(1), STEPS)?;
+        if leaf.word != said.word && meets(leaf, said) {
+            return Ok(false);
+        }
+    }
+    Ok(true)
 }
 
 // For which classes it is true.
-fn allowed(alloc: Global, classes: &Classes, said: &Said) -> Result<Vec<bool>, AllocError> {
+fn allowed(
+    alloc: Global,
+    work: &mut Work,
+    classes: &Classes,
+    said: &Said,
+) -> Result<Vec<bool>, Stopped> {
     let mut found = Vec::new(alloc);
     for leaves in &classes.leaves {
-        found.push(is_true(leaves, said))?;
+        found.push(is_true(work, leaves, said)?)?;
     }
     Ok(found)
 }
@@ -69,11 +83,12 @@ fn none_of(alloc: Global, count: usize) -> Result<Vec<bool>, AllocError> {
 // Adds that something is said for a class.
 fn push_found(
     alloc: Global,
+    work: &mut Work,
     list: &mut Vec<Found>,
-    classes: &Classes,
-    class: usize,
+    (classes, class): (&Classes, usize),
     said: Said,
-) -> Result<(), AllocError> {
+) -> Result<(), Stopped> {
+    work.spend(list.len())?;
     for found in list.iter_mut() {
         if found.said == said {
             need(&mut found.aim, class);
@@ -82,7 +97,7 @@ fn push_found(
     }
     let mut aim = Aim {
         needed: none_of(alloc, classes.leaves.len())?,
-        allowed: allowed(alloc, classes, &said)?,
+        allowed: allowed(alloc, work, classes, &said)?,
     };
     need(&mut aim, class);
     list.push(Found { said, aim })?;
@@ -105,16 +120,17 @@ fn under(alloc: Global, cond: Cond, said: &Said) -> Result<Said, AllocError> {
 // Adds what is said under conditions on an argument; false if no conditions are found.
 fn push_under(
     alloc: Global,
+    work: &mut Work,
     all: &mut Vec<Said>,
-    argument: &Argument,
+    (argument, taste): (&Argument, Taste),
     found: Found,
-) -> Result<bool, AllocError> {
+) -> Result<bool, Stopped> {
     let Found { said, aim } = found;
     if aim.allows_all() {
         all.push(said)?;
         return Ok(true);
     }
-    let Some(conds) = covering(alloc, argument, &aim)? else {
+    let Some(conds) = covering(alloc, work, argument, &aim, taste)? else {
         return Ok(false);
     };
     for cond in &conds {
@@ -123,16 +139,23 @@ fn push_under(
     Ok(true)
 }
 
+// How much is said of a call at most: each is an entry.
+const MOST_SAID: usize = 1024;
+
 // What is said under conditions on an argument.
 fn combined(
     alloc: Global,
-    argument: &Argument,
+    work: &mut Work,
+    (argument, taste): (&Argument, Taste),
     list: Vec<Found>,
-) -> Result<Option<Vec<Said>>, AllocError> {
+) -> Result<Option<Vec<Said>>, Stopped> {
     let mut all = Vec::new(alloc);
     for found in list {
-        if !push_under(alloc, &mut all, argument, found)? {
+        if !push_under(alloc, work, &mut all, (argument, taste), found)? {
             return Ok(None);
+        }
+        if all.len() > MOST_SAID {
+            return Err(Stopped::Spent);
         }
     }
     Ok(Some(all))
@@ -164,10 +187,12 @@ pub(crate) fn only_word(leaves: &[Leaf]) -> Option<u32> {
 /// conditions are found.
 pub(crate) fn said_of(
     alloc: Global,
+    work: &mut Work,
     leaves: &[Leaf],
     manner: Manner,
     left: u8,
-) -> Result<Option<Vec<Said>>, AllocError> {
+) -> Result<Option<Vec<Said>>, Stopped> {
+    work.spend(leaves.len())?;
     if let Some(word) = only_word(leaves) {
         return Ok(Some(said_always(alloc, word, manner.default)?));
     }
@@ -175,17 +200,17 @@ pub(crate) fn said_of(
         return Ok(None);
     }
     let index = 6u8.saturating_sub(left);
-    let Some(classes) = classes_of(alloc, leaves, index, manner.grain)? else {
+    let Some(classes) = classes_of(alloc, work, leaves, index, manner.grain)? else {
         return Ok(None);
     };
     let mut list = Vec::new(alloc);
     for (class, leaves) in classes.leaves.iter().enumerate() {
-        let Some(said) = said_of(alloc, leaves, manner, left - 1)? else {
+        let Some(said) = said_of(alloc, work, leaves, manner, left - 1)? else {
             return Ok(None);
         };
         for one in said {
-            push_found(alloc, &mut list, &classes, class, one)?;
+            push_found(alloc, work, &mut list, (&classes, class), one)?;
         }
     }
-    combined(alloc, &classes.argument, list)
+    combined(alloc, work, (&classes.argument, manner.taste), list)
 }

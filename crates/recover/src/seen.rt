@@ -8,8 +8,9 @@ use crate::text::is_given;
 use crate::unsaid::{Shown, Unsaid};
 use bpf_interp::verdict;
 use call_record::{Record, Word, words_are_a_record};
-use call_tables::{Family, compared, is_narrow};
+use call_tables::call_name;
 use kernel_check::Accepted;
+use machines::{Family, compared, is_narrow};
 use wording::machine_with;
 
 // Whether a filter gives a call the verdict that is shown.
@@ -44,7 +45,7 @@ fn is_unnamed(family: Family, call: &Record) -> bool
     ensures { result ≡ true → IsUnnamed family call.now }
 {
     match machine_with(family, call.arch, call.nr) {
-        Some(arch) => arch.has_number(call.nr) && arch.name(call.nr).is_none(),
+        Some(arch) => arch.has_number(call.nr) && call_name(arch, call.nr).is_none(),
         None => false,
     }
 }
@@ -54,7 +55,7 @@ fn name_of(family: Family, call: &Record) -> Option<&'static str>
     ensures { IfSome result (λ name. IsNamed family call.now name.now) }
 {
     match machine_with(family, call.arch, call.nr) {
-        Some(arch) => arch.name(call.nr),
+        Some(arch) => call_name(arch, call.nr),
         None => None,
     }
 }

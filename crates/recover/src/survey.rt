@@ -1,5 +1,6 @@
 //! What a filter compares and may answer of calls of which the machine or the number is known.
 use crate::asked::Asked;
+use crate::work::{Stopped, Work};
 use bpf_insn::{Insn, Operand, Operation, Test};
 use cert_state::{AVal, Listed, Regs, transfer};
 use kernel_check::Accepted;
@@ -49,10 +50,11 @@ struct Walk {
 }
 
 impl Walk {
-    fn go(&mut self, pc: usize, regs: Regs) -> Result<(), AllocError> {
+    fn go(&mut self, work: &mut Work, pc: usize, regs: Regs) -> Result<(), Stopped> {
         let Some(states) = self.waiting.get_mut(pc) else {
             return Ok(());
         };
+        work.spend(states.len().saturating_add(1))?;
         if states.iter().any(|other| *other == regs) {
             return Ok(());
         }
@@ -72,7 +74,8 @@ impl Walk {
         Ok(())
     }
 
-    fn ask(&mut self, asked: Asked) -> Result<(), AllocError> {
+    fn ask(&mut self, work: &mut Work, asked: Asked) -> Result<(), Stopped> {
+        work.spend(self.found.asked.len())?;
         if self.found.asked.iter().any(|other| *other == asked) {
             return Ok(());
         }
@@ -105,69 +108,76 @@ pub(crate) fn behind(pc: usize, skip: u32) -> usize {
 
 // Goes on at a comparison.
 fn at_branch(
+    work: &mut Work,
     walk: &mut Walk,
     pc: usize,
     insn: &Insn,
     regs: Regs,
     (test, a, operand): (Test, AVal, AVal),
-) -> Result<(), AllocError> {
+) -> Result<(), Stopped> {
     let taken = behind(pc, u32::from(insn.jt));
     let other = behind(pc, u32::from(insn.jf));
     match (a, operand) {
         (AVal::Const(a), AVal::Const(c)) => {
             let next = if test.holds(a, c) { taken } else { other };
-            return walk.go(next, regs);
+            return walk.go(work, next, regs);
         }
-        (AVal::Masked(word, mask), AVal::Const(number)) => walk.ask(Asked {
-            word,
-            mask,
-            test,
-            number,
-        })?,
+        (AVal::Masked(word, mask), AVal::Const(number)) => {
+            let asked = Asked {
+                word,
+                mask,
+                test,
+                number,
+            };
+            walk.ask(work, asked)?;
+        }
         _ => walk.found.is_whole = false,
     }
-    walk.go(taken, regs)?;
-    walk.go(other, regs)
+    walk.go(work, taken, regs)?;
+    walk.go(work, other, regs)
 }
 
 // Goes on at an instruction.
 fn at_insn(
+    work: &mut Work,
     walk: &mut Walk,
     known: Known,
     pc: usize,
     insn: &Insn,
     regs: Regs,
     next: Regs,
-) -> Result<(), AllocError> {
+) -> Result<(), Stopped> {
     match insn.operation() {
-        Some(Operation::ReturnK) => walk.answer(insn.k),
+        Some(Operation::ReturnK) => Ok(walk.answer(insn.k)?),
         Some(Operation::ReturnA) => match known_of(known, regs.a) {
-            AVal::Const(word) => walk.answer(word),
+            AVal::Const(word) => Ok(walk.answer(word)?),
             _ => {
                 walk.found.is_whole = false;
                 Ok(())
             }
         },
-        Some(Operation::Jump) => walk.go(behind(pc, insn.k), regs),
+        Some(Operation::Jump) => walk.go(work, behind(pc, insn.k), regs),
         Some(Operation::Branch(test, operand)) => {
             let other = match operand {
                 Operand::K => AVal::Const(insn.k),
                 Operand::X => known_of(known, regs.x),
             };
-            at_branch(walk, pc, insn, regs, (test, known_of(known, regs.a), other))
+            let compared = (test, known_of(known, regs.a), other);
+            at_branch(work, walk, pc, insn, regs, compared)
         }
-        _ => walk.go(behind(pc, 0), next),
+        _ => walk.go(work, behind(pc, 0), next),
     }
 }
 
 // Goes on from one state of the registers at a position.
 fn at_state(
+    work: &mut Work,
     walk: &mut Walk,
     program: &Accepted<'_>,
     known: Known,
     pc: usize,
     regs: Regs,
-) -> Result<(), AllocError> {
+) -> Result<(), Stopped> {
     let Ok(at) = u16::try_from(pc) else {
         return Ok(());
     };
@@ -180,7 +190,7 @@ fn at_state(
         more: None,
     };
     let next = transfer(&state, &insn);
-    at_insn(walk, known, pc, &insn, regs, next)
+    at_insn(work, walk, known, pc, &insn, regs, next)
 }
 
 // How many states of the registers there are at a position.
@@ -212,16 +222,17 @@ fn begun(alloc: Global, length: usize) -> Result<Walk, AllocError> {
 /// What the filter compares and may answer of calls of which this is known.
 pub(crate) fn survey_of(
     alloc: Global,
+    work: &mut Work,
     program: &Accepted<'_>,
     known: Known,
-) -> Result<Survey, AllocError> {
+) -> Result<Survey, Stopped> {
     let length = program.program().len();
     let mut walk = begun(alloc, length)?;
-    walk.go(0, AT_START)?;
+    walk.go(work, 0, AT_START)?;
     for pc in 0..length {
         for at in 0..states_at(&walk, pc) {
             if let Some(regs) = state_at(&walk, pc, at) {
-                at_state(&mut walk, program, known, pc, regs)?;
+                at_state(work, &mut walk, program, known, pc, regs)?;
             }
         }
     }

@@ -1,7 +1,8 @@
 //! The line that tells what no section says.
 use crate::unsaid::{Shown, Unsaid};
 use call_record::Record;
-use call_tables::Arch;
+use call_tables::call_name;
+use machines::Arch;
 use std::alloc::{AllocError, Global};
 use std::fmt::Write;
 use wording::{ActionText, machine_with};
@@ -17,7 +18,7 @@ fn put_call(text: &mut String, native: Arch, call: &Record) -> Result<(), AllocE
         return write!(text, "0x{token:x} {nr}");
     };
     let machine = arch.machine_name();
-    match arch.name(nr) {
+    match call_name(arch, nr) {
         Some(name) => write!(text, "{machine} {name}"),
         None => write!(text, "{machine} {nr}"),
     }

@@ -3,7 +3,7 @@ ghost use Rattle.std.specs.Prelude.{◌≡◌, is_some};
 ghost use Rattle.recover.specs.Unsaid.{can_be_said, has_action, takes_data};
 
 use crate::entries::Entry;
-use crate::machines::Listed;
+use crate::machine_tests::Listed;
 use call_record::Word;
 use profile::{Cond, Op};
 use std::alloc::{AllocError, Global};

@@ -3,14 +3,16 @@ use crate::calls::{record_with, show};
 use crate::leaves::{Called, Leaf};
 use crate::pieces::Piece;
 use crate::unsaid::Shown;
+use crate::work::{Stopped, Work};
 use kernel_check::Accepted;
-use std::alloc::{AllocError, Global};
+use std::alloc::Global;
 
 // How many choices of arguments are tried.
 const MOST: usize = 1 << 16;
 
 // Adds a number that is not there yet.
-fn push_new(numbers: &mut Vec<u64>, number: u64) -> Result<(), AllocError> {
+fn push_new(work: &mut Work, numbers: &mut Vec<u64>, number: u64) -> Result<(), Stopped> {
+    work.spend(numbers.len())?;
     if !numbers.iter().any(|other| *other == number) {
         numbers.push(number)?;
     }
@@ -18,11 +20,16 @@ fn push_new(numbers: &mut Vec<u64>, number: u64) -> Result<(), AllocError> {
 }
 
 // Adds the least and the greatest number of an argument in each leaf.
-fn push_numbers(numbers: &mut Vec<u64>, leaves: &[Leaf], index: u8) -> Result<(), AllocError> {
+fn push_numbers(
+    work: &mut Work,
+    numbers: &mut Vec<u64>,
+    leaves: &[Leaf],
+    index: u8,
+) -> Result<(), Stopped> {
     for leaf in leaves {
         let piece = Piece::of_leaf(leaf, index);
-        push_new(numbers, piece.least)?;
-        push_new(numbers, piece.greatest)?;
+        push_new(work, numbers, piece.least)?;
+        push_new(work, numbers, piece.greatest)?;
     }
     Ok(())
 }
@@ -30,18 +37,19 @@ fn push_numbers(numbers: &mut Vec<u64>, leaves: &[Leaf], index: u8) -> Result<()
 // Numbers for each argument, the greatest one that may be, if it is to be cut.
 fn numbers_of(
     alloc: Global,
+    work: &mut Work,
     some: &[Leaf],
     others: &[Leaf],
     greatest: u64,
-) -> Result<Vec<Vec<u64>>, AllocError> {
+) -> Result<Vec<Vec<u64>>, Stopped> {
     let mut all = Vec::new(alloc);
     for index in 0..6u8 {
         let mut found = Vec::new(alloc);
-        push_numbers(&mut found, some, index)?;
-        push_numbers(&mut found, others, index)?;
+        push_numbers(work, &mut found, some, index)?;
+        push_numbers(work, &mut found, others, index)?;
         let mut numbers = Vec::new(alloc);
         for number in &found {
-            push_new(&mut numbers, *number & greatest)?;
+            push_new(work, &mut numbers, *number & greatest)?;
         }
         all.push(numbers)?;
     }
@@ -84,13 +92,15 @@ pub(crate) struct Side<'a> {
 /// apart.
 pub(crate) fn unlike(
     alloc: Global,
+    work: &mut Work,
     program: &Accepted<'_>,
-    one: Side<'_>,
-    other: Side<'_>,
+    (one, other): (Side<'_>, Side<'_>),
     greatest: u64,
-) -> Result<Option<(Shown, Shown)>, AllocError> {
-    let numbers = numbers_of(alloc, one.leaves, other.leaves, greatest)?;
+) -> Result<Option<(Shown, Shown)>, Stopped> {
+    let numbers = numbers_of(alloc, work, one.leaves, other.leaves, greatest)?;
+    let steps = program.program().len();
     for choice in 0..choices(&numbers) {
+        work.spend(steps)?;
         let args = args_at(&numbers, choice);
         let first = show(program, record_with(one.call, args));
         let second = show(program, record_with(other.call, args));

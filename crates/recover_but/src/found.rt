@@ -3,12 +3,13 @@ ghost use Rattle.std.specs.Prelude.{◌≡◌, ℕ, IfOk, IfErr, List, string_by
 ghost use Rattle.compare.specs.Behind.{IsBehind};
 ghost use Rattle.aside.specs.Judged.{stub_calls};
 ghost use Rattle.recover_but.specs.RecoveredBut.{IsCertified, IsRecoveredBut, IsUnsaidBut};
-ghost use Rattle.call_tables.specs.declared.arch.Arch.{Arch as TheArch};
+ghost use Rattle.machines.specs.declared.arch.Arch.{Arch as TheArch};
 
 use aside::{But, Leave, judge_but};
-use call_tables::Arch;
 use compare::Behind;
+use machines::Arch;
 use maker::{Evidence, Unready};
+use profile_json::Document;
 use recover::{Passed, Unsaid, draft_of};
 use std::alloc::Global;
 
@@ -55,7 +56,11 @@ pub fn recover_but(
     ensures reason { IfErr result (IsUnsaidBut native behind.now.rest.now) }
 {
     let bundle = draft_of(alloc, native, behind.rest, passed_of(leave, behind))?;
-    let Ok(but) = judge_but(alloc, native, bundle.as_bytes(), filter, behind, leave) else {
+    let Ok(text) = Vec::from_slice(alloc, bundle.as_bytes()) else {
+        return Err(Unsaid::OutOfMemory);
+    };
+    let document = Document::new(alloc, text, native);
+    let Ok(but) = judge_but(alloc, &document, filter, behind, leave) else {
         return Err(Unsaid::OutOfMemory);
     };
     be_right(&but.judged.evidence)?;

@@ -1,14 +1,14 @@
 //! What is told of calls for which a section is not.
 ghost use Rattle.std.specs.Prelude.{◌≡◌, ◌-◌, [], IfOk, false, if◌then◌else◌, length, string_bytes};
-ghost use Rattle.call_tables.specs.Arch.{family_of};
+ghost use Rattle.machines.specs.Arch.{family_of};
 ghost use Rattle.compare.specs.Behind.{IsBehind};
 ghost use Rattle.compare.specs.StubTold as stub;
 ghost use Rattle.recover_but.specs.RecoveredBut as spec;
 
 use crate::found::{Found, recover_but};
 use aside::Leave;
-use call_tables::{Arch, Family};
 use compare::{Behind, Calls, behind_stub, calls_text, stub_text};
+use machines::{Arch, Family};
 use recover::Unsaid;
 use std::alloc::{AllocError, Global};
 

@@ -2,7 +2,7 @@
 use Rattle.std.specs.Prelude.{◌≡◌, ◌↔◌, ℕ, List, None, Some, Result, Ok, Err}
 use Rattle.call_record.specs.Verdict.{allow}
 use Rattle.call_record.specs.Words.{IsRecord}
-use Rattle.call_tables.specs.declared.arch.Arch.{Arch}
+use Rattle.machines.specs.declared.arch.Arch.{Arch}
 use Rattle.bpf_insn.specs.declared.instruction.Insn.{Insn}
 use Rattle.bpf_insn.specs.Bytes.{insns_of, view_fault}
 use Rattle.bpf_insn.specs.Machine.{verdict_of}

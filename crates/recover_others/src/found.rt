@@ -6,7 +6,7 @@ use crate::drafted::drafted;
 use crate::judged::judge_others;
 use crate::shown::of_filter;
 use crate::unallowed::Unallowed;
-use call_tables::Arch;
+use machines::Arch;
 use std::alloc::Global;
 
 // The bundle, or why none is found, by calls with verdicts of the filter that was judged.

@@ -1,8 +1,8 @@
 //! Which machines seem to be listed.
 use bpf_interp::verdict;
 use call_record::{Record, Word};
-use call_tables::Arch;
 use kernel_check::Accepted;
+use machines::Arch;
 use std::alloc::{AllocError, Global};
 
 // Whether a call with this in each argument is allowed.

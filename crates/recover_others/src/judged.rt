@@ -1,13 +1,13 @@
 //! Whether a bundle says what a filter answers, where it allows the calls of other machines.
 ghost use Rattle.std.specs.Prelude.{◌≡◌, ℕ, List, IfOk};
-ghost use Rattle.call_tables.specs.declared.arch.Arch.{Arch as TheArch};
+ghost use Rattle.machines.specs.declared.arch.Arch.{Arch as TheArch};
 ghost use Rattle.maker.specs.Finding.{IsBundle};
 ghost use Rattle.recover_others.specs.Others.{AllowsOthers};
 ghost use Rattle.recover_others.specs.RecoveredOthers.{IsCertified, IsRecoveredOthers, MeansAllowing};
 
 use crate::told::allows_others;
 use crate::unallowed::Unallowed;
-use call_tables::Arch;
+use machines::Arch;
 use maker::{Evidence, Unready, judge_filter};
 use other_calls::guarded;
 use profile::Profile;

@@ -1,6 +1,6 @@
 //! The line that tells why no section is found.
 use crate::unallowed::Unallowed;
-use call_tables::Arch;
+use machines::Arch;
 use recover::{Shown, Unsaid};
 use std::alloc::{AllocError, Global};
 use std::fmt::Write;

@@ -1,13 +1,12 @@
 -- What the profile of one rule says.
-use Rattle.std.proofs.Common.{◌≡◌, ℕ, zero, suc, ◌⊎◌, inl, inr, true, false, not, ◌&&◌, List, [], ◌∷◌, refl, sym, ◌∙◌, ap, subst, arith, IsTrue}
+use Rattle.std.proofs.Common.{◌≡◌, ◌<◌, ℕ, zero, suc, true, false, List, [], ◌∷◌, refl, sym, ◌∙◌, ap, subst, arith}
 use Rattle.std.specs.List.{All, Contains}
-use Rattle.std.proofs.lemmas.Bool.{and_parts, both_ways, cases_Bool, not-true}
+use Rattle.std.proofs.lemmas.Bool.{both_ways, lt-ltb, ltb-true}
 use Rattle.std.proofs.lemmas.List.Elements.{All-cons, All-contains, All-head, All-nil, All-same}
 use Rattle.call_record.specs.declared.layout.Record.{Record}
 use Rattle.call_record.specs.Record.{words}
-use Rattle.call_record.specs.Words.{IsRecord, word}
-use Rattle.call_record.specs.Verdict.{Through, is_through}
-use Rattle.call_tables.specs.Arch.{token_of}
+use Rattle.call_record.specs.Fate.{fate_of, is_further, steps}
+use Rattle.machines.specs.Arch.{token_of}
 use Rattle.profile.specs.declared.conditions.Cond.{Cond}
 use Rattle.profile.specs.declared.conditions.Op.{Op}
 use Rattle.profile.specs.declared.conditions.Op.TheVariants.{MaskedEq}
@@ -23,7 +22,7 @@ use Rattle.differ.specs.declared.direction.Direction.TheVariants.{Less}
 use Rattle.differ.specs.declared.found.Found.{Found}
 use Rattle.review.specs.Asked.{HasPart, IsAsked}
 use Rattle.review.specs.Groups.{PartEntry}
-use Rattle.review.specs.Judged.{AreConditionsOf, IsAnswer, IsConditionOf, IsOpposedBy, IsRuleOf, LetsThrough}
+use Rattle.review.specs.Judged.{AreConditionsOf, IsAnswer, IsConditionOf, IsOpposedBy, IsRuleOf}
 use Rattle.review.specs.declared.asked.Asked.{Asked}
 use Rattle.review.specs.declared.judged.Answer.TheVariants.{Refused, Open, Undecided}
 
@@ -91,15 +90,21 @@ pub refuses_all : (p : Policy) (asked : Asked) (rule : Rule) (q : Policy) (token
 refuses_all p asked rule q token same by like r a through =
     let of : IsOfCall token asked.nr r = of_call_with (token_of asked.arch) token asked.nr r (sym same) a.of_call in
     let alike : tells Less through.0 0 ≡ false = like r of through.0 0 through.1 (says_killed asked rule q r by a) in
-    let unlike : tells Less through.0 0 ≡ true = ap (λ b. b && true) through.2 in
+    let unlike : tells Less through.0 0 ≡ true = through.2 in
     both_ways (tells Less through.0 0) alike unlike
+
+-- what goes further than something goes further than what is refused
+goes_on : (v w : ℕ) → is_further v w ≡ true → is_further v 0 ≡ true
+goes_on v w h =
+    let more : steps (fate_of w) < steps (fate_of v) = ltb-true (steps (fate_of w)) (steps (fate_of v)) h in
+    lt-ltb 0 (steps (fate_of v)) (omega (arith, more))
 
 found_is_open : (p : Policy) (asked : Asked) (rule : Rule) (q : Policy) (token : ℕ) (found : Found) → token ≡ token_of asked.arch
     → IsRuleOf asked rule → IsFound p q token asked.nr Less found → Matches rule (words found.call) → IsAnswer p asked (Open found.call)
 found_is_open p asked rule q token found same is f matches = (
   matched_is_asked asked rule (words found.call) is (of_call_with token (token_of asked.arch) asked.nr (words found.call) same f.of_call)
       matches,
-  (found.first, f.says_first, (and_parts (is_through found.first) (not (is_through found.second)) f.unlike).0),
+  (found.first, f.says_first, goes_on found.first found.second f.unlike),
 )
 
 pub is_open : (p : Policy) (asked : Asked) (rule : Rule) (q : Policy) (token : ℕ) (found : Found) (call : Record)

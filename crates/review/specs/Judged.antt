@@ -1,9 +1,10 @@
 -- What a profile says of what a group asks about.
-use Rattle.std.specs.Prelude.{◌≡◌, ℕ, List, [], ◌∷◌, map}
+use Rattle.std.specs.Prelude.{◌≡◌, ℕ, List, [], ◌∷◌, map, true}
 use Rattle.std.specs.List.{All}
 use Rattle.call_record.specs.Record.{words}
-use Rattle.call_record.specs.Verdict.{Through, allow, kill_thread}
-use Rattle.call_tables.specs.Arch.{token_of}
+use Rattle.call_record.specs.Fate.{is_further}
+use Rattle.call_record.specs.Verdict.{allow, kill_thread}
+use Rattle.machines.specs.Arch.{token_of}
 use Rattle.profile.specs.declared.conditions.Cond.{Cond}
 use Rattle.profile.specs.declared.conditions.Op.TheVariants.{MaskedEq}
 use Rattle.profile.specs.declared.rules.Rule.{Rule}
@@ -17,9 +18,9 @@ use Rattle.review.specs.declared.judged.Answer.{Answer}
 use Rattle.review.specs.declared.judged.Answer.TheVariants.{Refused, Open, Undecided}
 use Rattle.review.specs.declared.judged.Judged.{Judged}
 
--- the profile says of the record that its call is carried out
-abbrev pub LetsThrough : Policy → List ℕ → Type 0
-LetsThrough p r = (v : ℕ) × Says p r v × Through v
+-- by the profile the record's call goes further than a refused one: it is let through, or left to a tracer or a listener
+abbrev pub GoesOn : Policy → List ℕ → Type 0
+GoesOn p r = (v : ℕ) × Says p r v × (is_further v kill_thread ≡ true)
 
 -- ---- when that is not decided
 
@@ -51,11 +52,11 @@ IsOpposed asked q = (rule : Rule) × IsOpposedBy asked rule q
 
 -- ---- what is found
 
--- No record that is asked about is let through, or this one is. Or the rules of the profile and the one above can answer in more ways
+-- All records that are asked about are refused, or this one is not. Or the rules of the profile and the one above can answer in more ways
 -- than are looked at.
 abbrev pub IsAnswer : Policy → Asked → Answer → Type 0
-IsAnswer p asked Refused = (r : List ℕ) → IsAsked asked r → LetsThrough p r → ⊥
-IsAnswer p asked (Open call) = IsAsked asked (words call) × LetsThrough p (words call)
+IsAnswer p asked Refused = (r : List ℕ) → IsAsked asked r → GoesOn p r → ⊥
+IsAnswer p asked (Open call) = IsAsked asked (words call) × GoesOn p (words call)
 IsAnswer p asked Undecided = (q : Policy) × IsOpposed asked q × AreCrowded p q (token_of asked.arch) asked.nr
 
 -- each of these is answered, in order

@@ -1,10 +1,10 @@
 -- systemd's groups of calls: which names a profile's machines have of each, and what the profile says of them.
-use Rattle.std.specs.Prelude.{ℕ, ◌≡◌, Bool, if◌then◌else◌, List, [], ◌∷◌, ◌++◌, filter, is_some, map}
+use Rattle.std.specs.Prelude.{◌≡◌, Bool, if◌then◌else◌, List, [], ◌∷◌, ◌++◌, filter, is_some, map}
 use Rattle.std.specs.List.{All, list_all, list_any}
 use Rattle.std.specs.Str.{bytes_eq}
 use Rattle.call_groups.specs.Groups.{Text, calls_of}
-use Rattle.call_tables.specs.declared.arch.Arch.{Arch}
-use Rattle.call_tables.specs.Arch.{table_of}
+use Rattle.machines.specs.declared.arch.Arch.{Arch}
+use Rattle.call_tables.specs.Tables.{table_of}
 use Rattle.call_tables.specs.Table.{number_in}
 use Rattle.profile.specs.Policy.{Policy}
 use Rattle.review.specs.Asked.{asked_by, whole}

@@ -1,5 +1,5 @@
 -- How it is told what a profile leaves open of systemd's groups.
-use Rattle.std.specs.Prelude.{ℕ, ◌≡◌, nat_lt, Bool, true, false, if◌then◌else◌, List, [], ◌∷◌, ◌++◌, codes, filter, length, map}
+use Rattle.std.specs.Prelude.{◌≡◌, nat_lt, Bool, true, false, if◌then◌else◌, List, [], ◌∷◌, ◌++◌, codes, filter, length, map}
 use Rattle.std.specs.List.{flat_map, list_all, list_any}
 use Rattle.call_groups.specs.Groups.{Text}
 use Rattle.profile.specs.Policy.{Policy}

@@ -3,7 +3,8 @@ ghost use Rattle.std.specs.Prelude.{◌≡◌, ◌++◌, IfOk};
 ghost use Rattle.review.specs.Asked as spec;
 
 use crate::groups::{Part, Row};
-use call_tables::Arch;
+use call_tables::call_number;
+use machines::Arch;
 use std::alloc::{AllocError, Global};
 
 /// Some records of a call of a machine.
@@ -52,7 +53,7 @@ fn add_on(list: &mut Vec<Asked>, arch: Arch, name: &str, part: Part) -> Result<(
     ensures { IfOk result (λ _. list.new.items ≡ list.old.items ++ spec.asked_on part.entry name.now arch) }
 {
     let part = part_on(arch, name, part);
-    match whole(arch).number(name) {
+    match call_number(whole(arch), name) {
         Some(nr) => {
             list.push(Asked { arch, nr, part })?;
             Ok(())

@@ -16,7 +16,7 @@ use std::alloc::{AllocError, Global};
 pub enum Answer {
     /// It refuses all of it.
     Refused,
-    /// It lets this record through.
+    /// It lets this record through, or leaves it to a tracer or a listener.
     Open(Record),
     /// Its rules can answer in more ways than are looked at.
     Undecided,

@@ -7,14 +7,15 @@ ghost use Rattle.review.specs.Systemd as spec;
 
 use crate::asked::whole;
 use call_groups::calls_of;
-use call_tables::Arch;
+use call_tables::call_number;
+use machines::Arch;
 use std::alloc::{AllocError, Global};
 
 // Whether a machine has a call of that name.
 fn has_on(arch: Arch, name: &str) -> bool
     ensures { result ≡ spec.has_on name.now arch }
 {
-    whole(arch).number(name).is_some()
+    call_number(whole(arch), name).is_some()
 }
 
 // Whether one of these machines has a call of that name.

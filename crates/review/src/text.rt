@@ -2,7 +2,7 @@
 ghost use Rattle.std.specs.Prelude.{◌≡◌, ◌++◌, IfOk, codes, string_bytes};
 ghost use Rattle.std.specs.List.{flat_map, list_all, list_any};
 ghost use Rattle.call_record.specs.Record.{words};
-ghost use Rattle.call_tables.specs.Arch.{table_of};
+ghost use Rattle.call_tables.specs.Tables.{table_of};
 ghost use Rattle.call_tables.specs.Table.{name_in};
 ghost use Rattle.review.specs.Told as spec;
 ghost use Rattle.review.specs.declared.judged.Answer.TheVariants.{Open};
@@ -11,7 +11,8 @@ use crate::asked::{Asked, whole};
 use crate::groups::Group;
 use crate::judged::{Answer, Judged};
 use call_record::Record;
-use call_tables::Arch;
+use call_tables::call_name;
+use machines::Arch;
 use profile::{Cond, Profile, Rule};
 use profile_json::EntryRules;
 use std::alloc::AllocError;
@@ -82,7 +83,7 @@ fn put_reason(
 fn put_name(text: &mut String, arch: Arch, nr: u32) -> Result<(), AllocError>
     ensures { IfOk result (λ _. string_bytes text.new ≡ string_bytes text.old ++ spec.name_text (name_in (table_of arch) nr) nr) }
 {
-    match arch.name(nr) {
+    match call_name(arch, nr) {
         Some(name) => text.push_str(name),
         None => write!(text, "call {nr}"),
     }

@@ -17,9 +17,8 @@ use crate::systemd::group_names;
 use crate::systemd_text::put_systemd;
 use crate::table::groups;
 use crate::text::put_group;
-use call_tables::Arch;
 use profile::Profile;
-use profile_json::{EntryRules, ProfileError, read_bundle, rules_by_entry};
+use profile_json::{Document, EntryRules, ProfileError};
 use std::alloc::{AllocError, Global};
 use wording::{Told, refused_profile};
 
@@ -90,23 +89,22 @@ fn told_of(alloc: Global, profile: &Profile, all: &EntryRules) -> Result<String,
 }
 
 // What is told of a bundle.
-fn text_for(alloc: Global, native: Arch, bundle: &[u8]) -> Result<String, ProfileError>
-    ensures tells { IfOk result (λ text. spec.TellsReview native bundle.now (string_bytes text)) }
+fn text_for(alloc: Global, document: &Document) -> Result<String, ProfileError>
+    ensures tells { IfOk result (λ text. spec.TellsReview document.now.native document.now.bytes (string_bytes text)) }
     // Unless memory ran out, the fault stands in the bundle.
-    ensures fault { IfErr result (λ e. IfSome (fault_of e) (Breaks bundle.now native)) }
+    ensures fault { IfErr result (λ e. IfSome (fault_of e) (Breaks document.now.bytes document.now.native)) }
 {
-    let read = read_bundle(alloc, bundle, native)?;
-    let all = rules_by_entry(alloc, bundle, native)?;
-    let text = told_of(alloc, &read.profile, &all)?;
+    let read = document.bundle()?;
+    let text = told_of(alloc, &read.profile, &read.by_entry)?;
     Ok(text)
 }
 
-/// Reports what a bundle, which is read for a native machine, leaves open of the calls by which a kernel is attacked most. Group
+/// Reports what a bundle leaves open of the calls by which a kernel is attacked most. Group
 /// by group, it reports each call that it lets through, and by which entry. The groups of systemd follow.
-pub fn review(alloc: Global, native: Arch, bundle: &[u8]) -> Result<Told, AllocError>
-    ensures { IfOk result (spec.IsReviewed native bundle.now) }
+pub fn review(alloc: Global, document: &Document) -> Result<Told, AllocError>
+    ensures { IfOk result (spec.IsReviewed document.now.native document.now.bytes) }
 {
-    match text_for(alloc, native, bundle) {
+    match text_for(alloc, document) {
         Ok(text) => Ok(Told {
             bytes: text.into_bytes(),
             done: true,

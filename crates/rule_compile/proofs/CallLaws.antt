@@ -12,8 +12,8 @@ use Rattle.bpf_insn.specs.declared.code.Test.TheVariants.{Equal}
 use Rattle.bpf_insn.specs.declared.code.Operation.TheVariants.{LoadWord}
 use Rattle.bpf_insn.specs.declared.instruction.Insn.{Insn}
 use Rattle.bpf_insn.specs.Code.{operation_of}
-use Rattle.call_tables.specs.declared.arch.Arch.{Arch}
-use Rattle.call_tables.specs.Arch.{token_of}
+use Rattle.machines.specs.declared.arch.Arch.{Arch}
+use Rattle.machines.specs.Arch.{token_of}
 use Rattle.profile.specs.Policy.{InOrder, Policy}
 use Rattle.profile.specs.Said.{said}
 use Rattle.std.specs.declared.alloc.AllocError.{AllocError}

@@ -5,7 +5,7 @@ use Rattle.std.specs.Prelude.{Some, None, bit_and, slice_index, if◌then◌else
 use Rattle.std.proofs.lemmas.Bool.{cases_eq, cases_lt, eq-eqb, ne_eqb, le-leb, lt-leb}
 use Rattle.std.proofs.lemmas.Nat.{and_block, and_le_r, and_mask}
 use Rattle.call_record.specs.Words.{IsRecord, argument, word}
-use Rattle.call_tables.specs.Width.{compared}
+use Rattle.machines.specs.Width.{compared}
 use Rattle.rule_compile.specs.declared.question.Comparison.{Comparison}
 use Rattle.rule_compile.specs.declared.question.Comparison.TheVariants.{Equal, AtLeast}
 use Rattle.rule_compile.specs.Questions.{compares, outcome}

@@ -7,8 +7,8 @@ use Rattle.std.proofs.lemmas.Bool.{false≢true}
 use Rattle.std.proofs.lemmas.List.{get_or-take, length-take-le, take-take, take_more}
 use Rattle.std.proofs.lemmas.List.Elements.{All-more, All-take}
 use Rattle.call_record.specs.Words.{IsRecord, argument, word}
-use Rattle.call_tables.specs.Arch.{token_of}
-use Rattle.call_tables.specs.Width.{compared, is_narrow}
+use Rattle.machines.specs.Arch.{token_of}
+use Rattle.machines.specs.Width.{compared, is_narrow}
 use Rattle.profile.specs.Condition.{Meets}
 use Rattle.profile.specs.Rule.{argument_of}
 use Rattle.rule_compile.specs.declared.asked.Open.{Open}

@@ -7,7 +7,7 @@ use Rattle.std.proofs.lemmas.List.Elements.{All-head, All-tail}
 use Rattle.std.proofs.lemmas.Option.{slice_get-get_or, slice_get_within}
 use Rattle.bpf_insn.specs.Bytes.{insns_of, max_insns}
 use Rattle.bpf_insn.specs.declared.instruction.Insn.{Insn}
-use Rattle.call_tables.specs.declared.arch.Arch.{Arch}
+use Rattle.machines.specs.declared.arch.Arch.{Arch}
 use Rattle.profile.specs.Policy.{Policy}
 use Rattle.rule_compile.specs.declared.fault.CompileError.{CompileError}
 use Rattle.rule_compile.specs.declared.fault.CompileError.TheVariants.{TooLong}

@@ -8,12 +8,12 @@ use Rattle.std.specs.List.{All, Any, Contains}
 use Rattle.std.proofs.lemmas.List.Elements.{All-append, All-cons, All-contains, All-head, All-nil}
 use Rattle.std.proofs.lemmas.Bool.{cases_lt}
 use Rattle.call_record.specs.Words.{IsRecord}
-use Rattle.call_tables.specs.declared.arch.Arch.{Arch}
-use Rattle.call_tables.specs.declared.numbers.Numbers.{Numbers}
-use Rattle.call_tables.specs.Arch.{token_of}
-use Rattle.call_tables.specs.Numbers.{IsWithin as IsAmong, foreign_numbers, from_to}
-use Rattle.call_tables.proofs.ArchLaws.{token_of-fits}
-use Rattle.call_tables.proofs.ForeignLaws.{native_or_foreign}
+use Rattle.machines.specs.declared.arch.Arch.{Arch}
+use Rattle.machines.specs.declared.numbers.Numbers.{Numbers}
+use Rattle.machines.specs.Arch.{token_of}
+use Rattle.machines.specs.Numbers.{IsWithin as IsAmong, foreign_numbers, from_to}
+use Rattle.machines.proofs.ArchLaws.{token_of-fits}
+use Rattle.machines.proofs.ForeignLaws.{native_or_foreign}
 use Rattle.profile.specs.declared.rules.Rule.{Rule}
 use Rattle.profile.specs.declared.conditions.Cond.{Cond}
 use Rattle.profile.specs.Condition.{Meets}

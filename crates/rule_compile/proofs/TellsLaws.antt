@@ -10,8 +10,8 @@ use Rattle.call_record.specs.Words.{IsRecord}
 use Rattle.bpf_insn.specs.declared.code.Test.TheVariants.{Equal}
 use Rattle.bpf_insn.specs.declared.code.Operation.TheVariants.{LoadWord}
 use Rattle.bpf_insn.specs.declared.instruction.Insn.{Insn}
-use Rattle.call_tables.specs.declared.arch.Arch.{Arch}
-use Rattle.call_tables.specs.Arch.{token_of}
+use Rattle.machines.specs.declared.arch.Arch.{Arch}
+use Rattle.machines.specs.Arch.{token_of}
 use Rattle.profile.specs.Policy.{IsClear, IsNative, Policy}
 use Rattle.profile.specs.Said.{said}
 use Rattle.rule_compile.specs.declared.label.Exits.{Exits}

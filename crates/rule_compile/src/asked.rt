@@ -1,7 +1,7 @@
 //! What is left to ask of rules.
 ghost use Rattle.std.specs.Prelude.{◌≡◌, ◌↔◌, ◌==◌, ◌+◌, ◌*◌, ◌≤◌, ◌<◌, ◌^◌, ◌%◌, ◌/◌, ℕ, List, [], ◌∷◌, ◌++◌, true, false, bit_and, length, take, slice_index, IsTrue, IfOk, OnOk, ⊤};
 ghost use Rattle.call_record.specs.Words.{IsRecord, argument};
-ghost use Rattle.call_tables.specs.Width.{compared};
+ghost use Rattle.machines.specs.Width.{compared};
 ghost use Rattle.profile.specs.Condition.{Meets};
 ghost use Rattle.rule_compile.specs.Questions.{IsMet, compares};
 ghost use Rattle.rule_compile.specs.inner.Left.{AreHeld, AreLeft, AreRules, AreSame, IsOffset, IsQuestion, IsSame, SaysHeld};

@@ -2,7 +2,7 @@
 ghost use Rattle.std.specs.Prelude.{◌≡◌, ◌↔◌, ◌≤◌, ◌<◌, ℕ, List, [], None, Some, length, vec_len, All, OnOk, IfErr, IfOk, IsErrOf, MatchOption};
 ghost use Rattle.bpf_insn.specs.Bytes.{insns_of, max_insns, spelling, view_fault};
 ghost use Rattle.call_record.specs.Words.{IsRecord};
-ghost use Rattle.call_tables.specs.Arch.{token_of};
+ghost use Rattle.machines.specs.Arch.{token_of};
 ghost use Rattle.profile.specs.Policy.{IsClear};
 ghost use Rattle.profile.specs.Said.{said};
 ghost use Rattle.rule_compile.specs.Outline.{IsOutlineOf};
@@ -28,7 +28,7 @@ use crate::written::Written;
 use bpf_insn::{Insn, MAX_INSNS, Test, encode_into};
 use call_record::Word;
 use call_record::offset::{MACHINE, NUMBER};
-use call_tables::Arch;
+use machines::Arch;
 use profile::Profile;
 use std::alloc::{AllocError, Global};
 

@@ -1,7 +1,7 @@
 //! What decides the calls of one machine, as ranges of call numbers.
 ghost use Rattle.std.specs.Prelude.{◌≡◌, ◌↔◌, ◌≤◌, ◌<◌, ◌^◌, [], length, max, vec_len, All, IfOk, IfSome, IsSome, IsTrue, OnOk};
 ghost use Rattle.std.specs.Prelude.{ℕ};
-ghost use Rattle.call_tables.specs.Arch.{token_of};
+ghost use Rattle.machines.specs.Arch.{token_of};
 ghost use Rattle.profile.specs.Policy.{IsClear};
 ghost use Rattle.rule_compile.specs.Decides.{Tiles};
 ghost use Rattle.rule_compile.specs.Shape.{IsPlain};
@@ -16,7 +16,7 @@ use crate::asked::Placed;
 use crate::blocks::Blocks;
 use crate::question::Subject;
 use call_record::Word;
-use call_tables::Arch;
+use machines::Arch;
 use profile::{Profile, Rule, foreign_numbers};
 use std::alloc::{AllocError, Global};
 

@@ -24,7 +24,7 @@ use crate::written::Written;
 use bpf_insn::Test;
 use call_record::Word;
 use call_record::offset::{MACHINE, NUMBER};
-use call_tables::Arch;
+use machines::Arch;
 use profile::Profile;
 use std::alloc::{AllocError, Global};
 

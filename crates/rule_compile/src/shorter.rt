@@ -7,7 +7,7 @@ use crate::outline::Outline;
 use crate::reached::only_reached;
 use crate::shared::{Shared, plan_shared};
 use bpf_insn::Insn;
-use call_tables::Family;
+use machines::Family;
 use profile::Profile;
 use std::alloc::{AllocError, Global};
 

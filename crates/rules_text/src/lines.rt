@@ -1,11 +1,11 @@
 //! The lines of the text.
 ghost use Rattle.std.specs.Prelude.{◌≡◌, ◌++◌, IfOk, codes, string_bytes};
 ghost use Rattle.std.specs.List.{flat_map};
-ghost use Rattle.call_tables.specs.Arch.{machine_name};
+ghost use Rattle.machines.specs.Arch.{machine_name};
 ghost use Rattle.rules_text.specs.Text as spec;
 
 use call_record::Word;
-use call_tables::Arch;
+use machines::Arch;
 use profile::{Cond, Op, Profile, Rule};
 use std::alloc::{AllocError, Global};
 use std::fmt::Write;

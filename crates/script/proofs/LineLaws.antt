@@ -6,7 +6,7 @@ use Rattle.std.specs.List.{join_with_byte, list_all}
 use Rattle.std.proofs.lemmas.Bool.{and_from, and_parts, cond-false, cond-true, lt-ltb, not-true}
 use Rattle.std.proofs.lemmas.Option.{none-some, same_Some}
 use Rattle.std.proofs.lemmas.List.Splits.{join_with_byte-slice_split}
-use Rattle.call_tables.specs.declared.arch.Arch.{Arch}
+use Rattle.machines.specs.declared.arch.Arch.{Arch}
 use Rattle.script.specs.Commands.{Command}
 use Rattle.script.specs.Grammar.{AreFieldsOf, IsCommand, LineIs, is_field, lacks, max_line}
 use Rattle.script.specs.Lines.{LinesAre, lines_of}

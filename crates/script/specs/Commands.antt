@@ -1,6 +1,6 @@
 -- The commands that a line may be.
 use Rattle.std.specs.Prelude.{ℕ, List, Option}
-use Rattle.call_tables.specs.declared.arch.Arch.{Arch}
+use Rattle.machines.specs.declared.arch.Arch.{Arch}
 
 -- a container by its id; a new one of a bundle by its name, a signal, or a call of one of its tasks, with a program beside it
 pub data Command : Type 0 where

@@ -1,6 +1,6 @@
 -- A line and a text mean one thing.
 use Rattle.std.specs.Prelude.{ℕ, ◌≡◌, List, Option}
-use Rattle.call_tables.specs.declared.arch.Arch.{Arch}
+use Rattle.machines.specs.declared.arch.Arch.{Arch}
 use Rattle.script.specs.Commands.{Command}
 use Rattle.script.specs.Grammar.{LineIs}
 use Rattle.script.specs.Lines.{Reads}

@@ -2,7 +2,7 @@
 use Rattle.std.specs.Prelude.{ℕ, ◌≡◌, true, List, [], ◌∷◌, Option}
 use Rattle.std.specs.List.{join_with_byte, list_all}
 use Rattle.texts.specs.Lines.{line_feed}
-use Rattle.call_tables.specs.declared.arch.Arch.{Arch}
+use Rattle.machines.specs.declared.arch.Arch.{Arch}
 use Rattle.script.specs.Commands.{Command}
 use Rattle.script.specs.Grammar.{LineIs, lacks}
 

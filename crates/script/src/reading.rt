@@ -10,7 +10,7 @@ use crate::fields::fields_in;
 use crate::numbers::number;
 use crate::request::Request;
 use crate::what::what_call;
-use call_tables::Arch;
+use machines::Arch;
 
 /// The most bytes of a line, its line feed not counted.
 pub const MAX_LINE: usize = 70000;

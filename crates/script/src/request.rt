@@ -1,6 +1,6 @@
 //! What a line asks for.
 use crate::digits::Hex;
-use call_tables::Arch;
+use machines::Arch;
 
 /// What a line asks for, with its texts lent from the line.
 #[derive(Clone, Copy)]

@@ -1,10 +1,11 @@
 //! Which call a task makes.
 ghost use Rattle.std.specs.Prelude.{◌≡◌};
-ghost use Rattle.call_tables.specs.Arch.{family_of, same_family};
+ghost use Rattle.machines.specs.Arch.{family_of, same_family};
 ghost use Rattle.script.specs.inner.Reading.{foreign_at, what_at};
 
 use crate::numbers::number32;
-use call_tables::{Arch, Family};
+use call_tables::call_number;
+use machines::{Arch, Family};
 use texts::split;
 
 // Whether a machine is of a family.
@@ -32,7 +33,7 @@ fn foreign(family: Family, text: &str) -> Option<(Arch, u32)>
 pub(crate) fn what_call(native: Arch, text: &str) -> Option<(Arch, u32)>
     ensures { result ≡ what_at native text.now }
 {
-    match native.number(text) {
+    match call_number(native, text) {
         Some(nr) => Some((native, nr)),
         None => foreign(native.family(), text),
     }

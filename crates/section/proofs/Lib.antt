@@ -1,3 +1,5 @@
 pub mod Lists
 pub mod UnreadLaws
+pub mod UnlikeLaws
 pub mod SectionLaws
+pub mod TakenLaws

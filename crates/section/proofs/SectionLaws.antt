@@ -3,7 +3,7 @@ use Rattle.std.proofs.Common.{refl, ◌≡◌, ℕ, List, Bool, IfOk, IsTrue, su
 use Rattle.std.specs.Prelude.{◌≢◌, IfSome, None, Option, Some, Result, Ok, Err}
 use Rattle.std.proofs.lemmas.Option.{same_Some}
 use Rattle.serde_json.specs.Data.{Data}
-use Rattle.call_tables.specs.declared.arch.Arch.{Arch}
+use Rattle.machines.specs.declared.arch.Arch.{Arch}
 use Rattle.profile.specs.Policy.{Policy}
 use Rattle.profile_json.specs.Meaning.{Means}
 use Rattle.profile_json.specs.Breaks.{Breaks}

@@ -1,7 +1,9 @@
 pub mod Kinds
 pub mod Texts
 pub mod Remarks
+pub mod Taken
 pub mod Members
 pub mod Unread
+pub mod Unlike
 pub mod Beside
 pub mod Sections

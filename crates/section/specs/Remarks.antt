@@ -1,12 +1,12 @@
 -- What a text is that no command reads as a bundle, in a line.
 use Rattle.std.specs.Prelude.{ℕ, ◌≡◌, List, Option, Some, None, codes}
-use Rattle.call_tables.specs.declared.arch.Arch.{Arch}
-use Rattle.call_tables.specs.declared.arch.Family.{Family}
-use Rattle.call_tables.specs.declared.arch.Family.TheVariants.{Chosen, Whole}
-use Rattle.call_tables.specs.Arch.{family_of}
+use Rattle.machines.specs.declared.arch.Arch.{Arch}
+use Rattle.machines.specs.declared.arch.Family.{Family}
+use Rattle.machines.specs.declared.arch.Family.TheVariants.{Chosen, Whole}
+use Rattle.machines.specs.Arch.{family_of}
 use Rattle.section.specs.Texts.{IsKind}
 use Rattle.section.specs.declared.kinds.Kind.{Kind}
-use Rattle.section.specs.declared.kinds.Kind.TheVariants.{Bundle, Section, EnginesOwn, Kubernetes, KubernetesList, Yaml, NoConfig}
+use Rattle.section.specs.declared.kinds.Kind.TheVariants.{Bundle, Section, EnginesOwn, Kubernetes, KubernetesList, Yaml, NoConfig, Unlike}
 
 -- the line that says what a text of a kind is, if it is neither a bundle nor a section
 abbrev pub line_of : Kind → Option (List ℕ)
@@ -17,6 +17,7 @@ line_of Kubernetes = Some (codes "ccell: this is an object of Kubernetes: ccell 
 line_of KubernetesList = Some (codes "ccell: this is a list of objects and no config: kubectl get with one name and -o json writes one object\n")
 line_of Yaml = Some (codes "ccell: this is YAML, which is not read: kubectl get -o json writes the same object as JSON\n")
 line_of NoConfig = Some (codes "ccell: this is no config and no profile: none of linux, ociVersion and defaultAction stands at its top\n")
+line_of Unlike = Some (codes "ccell: runtimes and engines do not take this text alike, so it is taken as none\n")
 
 abbrev pub IsRemarkOf : Family → List ℕ → Option (List ℕ) → Type 0
 IsRemarkOf Chosen bytes line = line ≡ None

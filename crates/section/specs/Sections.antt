@@ -1,7 +1,7 @@
 -- The section of a bundle, written by itself.
 use Rattle.std.specs.Prelude.{ℕ, List}
 use Rattle.serde_json.specs.Data.{Data}
-use Rattle.call_tables.specs.declared.arch.Arch.{Arch}
+use Rattle.machines.specs.declared.arch.Arch.{Arch}
 use Rattle.profile.specs.Policy.{Policy}
 use Rattle.profile_json.specs.Meaning.{IsText, Means}
 use Rattle.section.specs.Texts.{IsKind, in_bundle}

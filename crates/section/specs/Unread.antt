@@ -1,16 +1,16 @@
--- What stands in a bundle and is not read: members of its section under other keys, and a key that stands twice.
+-- What stands in a bundle and is not read: members of its section under other keys.
 use Rattle.std.specs.Prelude.{ℕ, ◌≡◌, ◌+◌, ◌&&◌, ◌||◌, ◌⊎◌}
 use Rattle.std.specs.Prelude.{Bool, false, List, [], ◌∷◌, ◌++◌, Option, Some, None}
-use Rattle.std.specs.Prelude.{codes, count_by, if◌then◌else◌, map, nat_lt}
+use Rattle.std.specs.Prelude.{codes, if◌then◌else◌, map, nat_lt}
 use Rattle.std.specs.Fmt.{decimal}
 use Rattle.std.specs.List.{flat_map, list_any}
 use Rattle.std.specs.Str.{IsUtf8, bytes_eq}
 use Rattle.json.specs.Json.{Json, document, null, boolean, number, string, array, object}
 use Rattle.json.specs.Find.{get}
-use Rattle.call_tables.specs.declared.arch.Arch.{Arch}
-use Rattle.call_tables.specs.declared.arch.Family.{Family}
-use Rattle.call_tables.specs.declared.arch.Family.TheVariants.{Chosen, Whole}
-use Rattle.call_tables.specs.Arch.{family_of}
+use Rattle.machines.specs.declared.arch.Arch.{Arch}
+use Rattle.machines.specs.declared.arch.Family.{Family}
+use Rattle.machines.specs.declared.arch.Family.TheVariants.{Chosen, Whole}
+use Rattle.machines.specs.Arch.{family_of}
 use Rattle.profile_json.specs.Keys as key
 use Rattle.section.specs.Members.{keys_of, list_of}
 
@@ -64,27 +64,15 @@ line place k what = place ++ shown k ++ what
 abbrev pub not_read : List ℕ
 not_read = codes ": is not read\n"
 
-abbrev pub stands_twice : List ℕ
-stands_twice = codes ": stands twice, and the last one counts\n"
-
 abbrev pub unread_line : List (List ℕ) → List ℕ → List ℕ → List ℕ
 unread_line known place k = if is_known known k then [] else line place k not_read
 
-abbrev pub is_twice : List (List ℕ) → List ℕ → Bool
-is_twice keys k = nat_lt 1 (count_by (λ other. bytes_eq other k) keys)
-
-abbrev pub twice_line : List ℕ → List (List ℕ) → List ℕ → List ℕ
-twice_line place keys k = if is_twice keys k then line place k stands_twice else []
-
--- the lines of the keys that are not read, and of those that are read and stand twice
+-- the lines of the keys that are not read
 abbrev pub unread_lines : List (List ℕ) → List ℕ → List (List ℕ) → List ℕ
 unread_lines known place keys = flat_map (unread_line known place) keys
 
-abbrev pub twice_lines : List (List ℕ) → List ℕ → List (List ℕ) → List ℕ
-twice_lines known place keys = flat_map (twice_line place keys) known
-
 abbrev pub object_lines : List (List ℕ) → List ℕ → Json → List ℕ
-object_lines known place j = unread_lines known place (keys_of j) ++ twice_lines known place (keys_of j)
+object_lines known place j = unread_lines known place (keys_of j)
 
 -- of what stands under a key, if something does; if the key stands twice, the last counts
 abbrev pub lines_if : (Json → List ℕ) → Option Json → List ℕ
@@ -137,10 +125,10 @@ section_lines j =
     members_lines j ++ lines_if (λ list. entries_lines 0 (list_of list)) (get key.syscalls j)
 
 abbrev pub linux_lines : Json → List ℕ
-linux_lines j = twice_lines linux_keys (codes "linux.") (keys_of j) ++ lines_if section_lines (get key.seccomp j)
+linux_lines j = lines_if section_lines (get key.seccomp j)
 
 abbrev pub bundle_lines : Json → List ℕ
-bundle_lines j = twice_lines bundle_keys [] (keys_of j) ++ lines_if linux_lines (get key.linux j)
+bundle_lines j = lines_if linux_lines (get key.linux j)
 
 -- the text of the bytes is this value
 abbrev pub IsJson : List ℕ → Json → Type 0

@@ -4,8 +4,8 @@ ghost use Rattle.json.specs.Value.{value_view};
 ghost use Rattle.section.specs.Beside as spec;
 
 use crate::unread::{list_of, put_shown};
-use call_tables::{Arch, Family};
 use json::{Error, Scratch, Value};
+use machines::{Arch, Family};
 use std::alloc::{AllocError, Global};
 
 // A text; of another value the empty one.

@@ -2,7 +2,7 @@
 ghost use Rattle.std.specs.Prelude.{◌≡◌, ◌↔◌, IsTrue};
 
 use call_record::Word;
-use call_tables::Arch;
+use machines::Arch;
 use profile::{Profile, Rule};
 
 fn are_same_machines(these: &[Arch], others: &[Arch]) -> bool

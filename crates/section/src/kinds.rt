@@ -24,6 +24,8 @@ pub enum Kind {
     Yaml,
     /// JSON that is neither a config nor a profile.
     NoConfig,
+    /// A text that runtimes and engines do not take alike.
+    Unlike,
 }
 
 // Whether an object has a member.

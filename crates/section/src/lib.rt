@@ -8,6 +8,8 @@ mod equal;
 mod kinds;
 mod reading;
 mod remarks;
+mod taken;
+mod unlike;
 mod unread;
 mod writing;
 
@@ -15,5 +17,7 @@ pub use beside::beside_of;
 pub use kinds::{Kind, kind_of};
 pub use reading::{bundle_text, kind_of_text, put_in_bundle};
 pub use remarks::{line_of, remark_of};
+pub use taken::{Taken, take};
+pub use unlike::unlike_of;
 pub use unread::{ARGUMENT_KEYS, ENTRY_KEYS, SECTION_KEYS, unread_of};
 pub use writing::{keeps_meaning, section_of};

@@ -1,17 +1,18 @@
 //! Bundles of the bytes of files.
 ghost use Rattle.std.specs.Prelude.{◌≡◌, IfOk};
-ghost use Rattle.call_tables.specs.declared.arch.Family.TheVariants.{Whole};
+ghost use Rattle.machines.specs.declared.arch.Family.TheVariants.{Whole};
 ghost use Rattle.section.specs.Texts as spec;
-ghost use Rattle.section.specs.Texts.{IsBundleText, IsKind, in_bundle};
+ghost use Rattle.section.specs.Texts.{IsBundleText, IsKind, IsPlainKind, in_bundle};
 
 use crate::kinds::{Kind, kind_of, kind_of_other_text};
-use call_tables::{Arch, Family};
+use crate::unlike::lines_of;
+use machines::{Arch, Family};
 use serde_json::Value;
 use std::alloc::{AllocError, Global};
 
-/// What stands in a file of these bytes.
-pub fn kind_of_text(alloc: Global, bytes: &[u8]) -> Result<Kind, AllocError>
-    ensures { IfOk result (IsKind bytes.now) }
+// What a text is that all readers take alike.
+fn kind_of_alike(alloc: Global, bytes: &[u8]) -> Result<Kind, AllocError>
+    ensures { IfOk result (IsPlainKind bytes.now) }
 {
     match Value::from_slice(alloc, bytes) {
         Ok(value) => Ok(kind_of(&value)),
@@ -22,6 +23,17 @@ pub fn kind_of_text(alloc: Global, bytes: &[u8]) -> Result<Kind, AllocError>
             Ok(kind_of_other_text(bytes))
         }
     }
+}
+
+/// What stands in a file of these bytes.
+pub fn kind_of_text(alloc: Global, bytes: &[u8]) -> Result<Kind, AllocError>
+    ensures { IfOk result (IsKind bytes.now) }
+{
+    let unlike = lines_of(alloc, bytes)?;
+    if unlike.is_empty() {
+        return kind_of_alike(alloc, bytes);
+    }
+    Ok(Kind::Unlike)
 }
 
 const HEAD: &str = "{\"ociVersion\":\"1.0.2\",\"linux\":{\"seccomp\":";
@@ -51,6 +63,7 @@ fn taken_as(alloc: Global, kind: Kind, bytes: Vec<u8>) -> Result<Vec<u8>, AllocE
         Kind::KubernetesList => Ok(bytes),
         Kind::Yaml => Ok(bytes),
         Kind::NoConfig => Ok(bytes),
+        Kind::Unlike => Ok(Vec::new(alloc)),
     }
 }
 
@@ -63,7 +76,7 @@ fn bundle_of(alloc: Global, bytes: Vec<u8>) -> Result<Vec<u8>, AllocError>
 }
 
 /// The bundle of a file of these bytes, which is read for a native machine. It is the bytes themselves, or the bundle in
-/// which the section stands that they are. For the machines of the chosen lists a section is none.
+/// which the section stands that they are. A text that readers do not take alike is taken as none: the bundle is empty. For the machines of the chosen lists a section is none.
 pub fn bundle_text(alloc: Global, native: Arch, bytes: Vec<u8>) -> Result<Vec<u8>, AllocError>
     ensures { IfOk result (λ text. IsBundleText native bytes.items text.items) }
 {

@@ -1,11 +1,11 @@
 //! Lines that say what a text is that no command reads as a bundle.
 ghost use Rattle.std.specs.Prelude.{◌≡◌, IfOk, option_map};
-ghost use Rattle.call_tables.specs.declared.arch.Family.TheVariants.{Whole};
+ghost use Rattle.machines.specs.declared.arch.Family.TheVariants.{Whole};
 ghost use Rattle.section.specs.Remarks as spec;
 
 use crate::kinds::Kind;
 use crate::reading::kind_of_text;
-use call_tables::{Arch, Family};
+use machines::{Arch, Family};
 use std::alloc::{AllocError, Global};
 
 /// The line that says what a text of a kind is, if it is neither a bundle nor a section.
@@ -29,6 +29,9 @@ pub fn line_of(kind: Kind) -> Option<&'static str>
         ),
         Kind::NoConfig => Some(
             "ccell: this is no config and no profile: none of linux, ociVersion and defaultAction stands at its top\n",
+        ),
+        Kind::Unlike => Some(
+            "ccell: runtimes and engines do not take this text alike, so it is taken as none\n",
         ),
     }
 }

@@ -1,19 +1,14 @@
-//! Members of a bundle that are not read, and keys that stand twice in it.
-ghost use Rattle.std.specs.Prelude.{◌≡◌, ◌++◌, IfOk, count_by, map, string_bytes};
+//! Members of a bundle that are not read.
+ghost use Rattle.std.specs.Prelude.{◌≡◌, ◌++◌, IfOk, map, string_bytes};
 ghost use Rattle.std.specs.List.{list_any};
 ghost use Rattle.std.specs.Str.{bytes_eq};
 ghost use Rattle.json.specs.Value.{value_view};
 ghost use Rattle.section.specs.Members as members;
 ghost use Rattle.section.specs.Unread as spec;
 
-use call_tables::{Arch, Family};
 use json::{Error, Scratch, Value};
+use machines::{Arch, Family};
 use std::alloc::{AllocError, Global};
-
-// The keys of a bundle that are read, and of what stands under `linux`.
-const BUNDLE_KEYS: &[&str] = &["ociVersion", "linux"];
-
-const LINUX_KEYS: &[&str] = &["seccomp"];
 
 /// The keys of a section that are read.
 pub const SECTION_KEYS: &[&str] = &[
@@ -63,20 +58,6 @@ fn is_known(known: &[&str], key: &str) -> bool
     is_one_of(known, key) || is_remark(key)
 }
 
-// How often a key stands in an object.
-fn count_of(members: &[(&str, Value<'_>)], key: &str) -> usize
-    ensures { result ≡ count_by (λ member. bytes_eq member.0.now key.now) members.now }
-{
-    members.iter().filter(|member| member.0 == key).count()
-}
-
-// Whether a key stands twice in an object.
-fn is_twice(members: &[(&str, Value<'_>)], key: &str) -> bool
-    ensures { result ≡ spec.is_twice (map (λ m. m.0.now) members.now) key.now }
-{
-    count_of(members, key) > 1
-}
-
 fn shown_byte(byte: u8) -> u8
     ensures { result ≡ spec.shown_byte byte }
 {
@@ -93,8 +74,13 @@ pub(crate) fn put_shown(lines: &mut Vec<u8>, key: &[u8]) -> Result<(), AllocErro
     Ok(())
 }
 
-// Adds the line of a member, by the place of its object and its key.
-fn put_line(lines: &mut Vec<u8>, place: &str, key: &str, what: &str) -> Result<(), AllocError>
+/// Adds the line of a member, by the place of its object and its key.
+pub(crate) fn put_line(
+    lines: &mut Vec<u8>,
+    place: &str,
+    key: &str,
+    what: &str,
+) -> Result<(), AllocError>
     ensures { IfOk result (λ _. lines.new.items ≡ lines.old.items ++ spec.line place.now key.now what.now) }
 {
     lines.extend_from_slice(place.as_bytes())?;
@@ -104,8 +90,6 @@ fn put_line(lines: &mut Vec<u8>, place: &str, key: &str, what: &str) -> Result<(
 }
 
 const NOT_READ: &str = ": is not read\n";
-
-const STANDS_TWICE: &str = ": stands twice, and the last one counts\n";
 
 // Adds the line of a key, unless it is read.
 fn put_if_unread(
@@ -121,22 +105,6 @@ fn put_if_unread(
         return Ok(());
     }
     put_line(lines, place, key, NOT_READ)
-}
-
-// Adds the line of a key, if it stands twice.
-fn put_if_twice(
-    lines: &mut Vec<u8>,
-    place: &str,
-    members: &[(&str, Value<'_>)],
-    key: &str,
-) -> Result<(), AllocError>
-    ensures { IfOk result (λ _. lines.new.items
-        ≡ lines.old.items ++ spec.twice_line place.now (map (λ m. m.0.now) members.now) key.now) }
-{
-    if is_twice(members, key) {
-        return put_line(lines, place, key, STANDS_TWICE);
-    }
-    Ok(())
 }
 
 // Adds the lines of the keys of an object that are not read.
@@ -155,24 +123,8 @@ fn put_unread(
     Ok(())
 }
 
-// Adds the lines of the keys of an object that are read and stand twice.
-fn put_twice(
-    lines: &mut Vec<u8>,
-    place: &str,
-    known: &[&str],
-    members: &[(&str, Value<'_>)],
-) -> Result<(), AllocError>
-    ensures { IfOk result (λ _. lines.new.items
-        ≡ lines.old.items ++ spec.twice_lines (map (λ k. k.now) known.now) place.now (map (λ m. m.0.now) members.now)) }
-{
-    for key in known {
-        put_if_twice(lines, place, members, *key)?;
-    }
-    Ok(())
-}
-
-// The members of an object.
-fn members_of<'v, 'a>(value: &'v Value<'a>) -> &'v [(&'a str, Value<'a>)]
+/// The members of an object.
+pub(crate) fn members_of<'v, 'a>(value: &'v Value<'a>) -> &'v [(&'a str, Value<'a>)]
     ensures { map (λ m. m.0.now) result.now ≡ members.keys_of (value_view value.now) }
 {
     match value {
@@ -201,9 +153,7 @@ fn put_object(
     ensures { IfOk result (λ _. lines.new.items
         ≡ lines.old.items ++ spec.object_lines (map (λ k. k.now) known.now) place.now (value_view value.now)) }
 {
-    let members = members_of(value);
-    put_unread(lines, place, known, members)?;
-    put_twice(lines, place, known, members)
+    put_unread(lines, place, known, members_of(value))
 }
 
 // The places of a member of `args` and of an entry, as they stand before a key.
@@ -335,7 +285,6 @@ fn put_section(lines: &mut Vec<u8>, alloc: Global, value: &Value<'_>) -> Result<
 fn put_linux(lines: &mut Vec<u8>, alloc: Global, value: &Value<'_>) -> Result<(), AllocError>
     ensures { IfOk result (λ _. lines.new.items ≡ lines.old.items ++ spec.linux_lines (value_view value.now)) }
 {
-    put_twice(lines, "linux.", LINUX_KEYS, members_of(value))?;
     match value.get("seccomp") {
         Some(section) => put_section(lines, alloc, section),
         None => Ok(()),
@@ -346,7 +295,6 @@ fn put_linux(lines: &mut Vec<u8>, alloc: Global, value: &Value<'_>) -> Result<()
 fn put_bundle(lines: &mut Vec<u8>, alloc: Global, value: &Value<'_>) -> Result<(), AllocError>
     ensures { IfOk result (λ _. lines.new.items ≡ lines.old.items ++ spec.bundle_lines (value_view value.now)) }
 {
-    put_twice(lines, "", BUNDLE_KEYS, members_of(value))?;
     match value.get("linux") {
         Some(linux) => put_linux(lines, alloc, linux),
         None => Ok(()),
@@ -374,8 +322,7 @@ fn lines_of(alloc: Global, bytes: &[u8]) -> Result<Vec<u8>, AllocError>
     }
 }
 
-/// A line for each member of a bundle's section that is not read, and for each key that is read and stands twice. A bundle of
-/// which no line is told has neither. For the machines of the chosen lists no lines are told.
+/// A line for each member of a bundle's section that is not read. For the machines of the chosen lists no lines are told.
 pub fn unread_of(alloc: Global, native: Arch, bundle: &[u8]) -> Result<Vec<u8>, AllocError>
     ensures { IfOk result (λ lines. spec.AreUnread native bundle.now lines.items) }
 {

@@ -8,7 +8,7 @@ ghost use Rattle.section.specs.Texts.{IsKind, in_bundle};
 use crate::equal::are_same;
 use crate::kinds::Kind;
 use crate::reading::{kind_of_text, put_in_bundle};
-use call_tables::Arch;
+use machines::Arch;
 use profile::Profile;
 use profile_json::{ProfileError, read_bundle};
 use std::alloc::{AllocError, Global};

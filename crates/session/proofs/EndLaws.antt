@@ -6,7 +6,7 @@ use Rattle.texts.specs.declared.streams.fault.WriteFault.{WriteFault}
 use Rattle.texts.specs.declared.streams.fault.WriteFault.TheVariants.{Write, OutOfMemory}
 use Rattle.texts.specs.Failures.{Failures, HasFailed, NoneFailed}
 use Rattle.texts.specs.Sink.{WritesMade}
-use Rattle.call_tables.specs.Arch.{family_of}
+use Rattle.machines.specs.Arch.{family_of}
 use Rattle.processes.specs.First.{by_program}
 use Rattle.processes.specs.declared.outcome.Response.{Response}
 use Rattle.lifecycle.specs.declared.command.Reply.{Reply}

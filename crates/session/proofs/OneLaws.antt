@@ -8,10 +8,10 @@ use Rattle.std.proofs.lemmas.List.Splits.{slice_split-cons_no, slice_split-cons_
 use Rattle.call_record.specs.declared.layout.Record.{Record}
 use Rattle.call_record.specs.Record.{words}
 use Rattle.call_record.proofs.RecordLemmas.{same_from_words}
-use Rattle.call_tables.specs.declared.arch.Arch.{Arch}
-use Rattle.call_tables.specs.declared.arch.Family.{Family}
-use Rattle.call_tables.specs.declared.arch.Family.TheVariants.{Chosen, Whole}
-use Rattle.call_tables.specs.Arch.{family_of}
+use Rattle.machines.specs.declared.arch.Arch.{Arch}
+use Rattle.machines.specs.declared.arch.Family.{Family}
+use Rattle.machines.specs.declared.arch.Family.TheVariants.{Chosen, Whole}
+use Rattle.machines.specs.Arch.{family_of}
 use Rattle.processes.specs.Attached.{beside_of}
 use Rattle.processes.specs.declared.outcome.Response.{Response}
 use Rattle.lifecycle.specs.Commands.{Command}

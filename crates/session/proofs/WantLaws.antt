@@ -16,7 +16,7 @@ use Rattle.lifecycle.specs.Commands.Command.{Create, Start, Kill, Delete, State,
 use Rattle.lifecycle.specs.Steps.{call, create, delete, first_call, kill, known, start, start_reply, step}
 use Rattle.lifecycle.specs.Worlds.{Container, First, World, container_at}
 use Rattle.texts.specs.Lines.{space}
-use Rattle.call_tables.specs.declared.arch.Arch.{Arch}
+use Rattle.machines.specs.declared.arch.Arch.{Arch}
 use Rattle.script.specs.Commands as script
 use Rattle.script.specs.Grammar.{IsCommand}
 use Rattle.script.specs.Numbers.{AreBytes}

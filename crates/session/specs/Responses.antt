@@ -1,8 +1,8 @@
 -- What a script says that a listener responds to a call. It stands at the end of the call's line, behind a space.
 use Rattle.std.specs.Prelude.{ℕ, ◌≡◌, ◌≤◌, List, ◌∷◌, ◌++◌, length, Option, None, Some, codes, IsUtf8}
 use Rattle.texts.specs.Lines.{space}
-use Rattle.call_tables.specs.declared.arch.Family.{Family}
-use Rattle.call_tables.specs.declared.arch.Family.TheVariants.{Chosen, Whole}
+use Rattle.machines.specs.declared.arch.Family.{Family}
+use Rattle.machines.specs.declared.arch.Family.TheVariants.{Chosen, Whole}
 use Rattle.script.specs.Grammar.{max_line}
 use Rattle.script.specs.Numbers.{IsNumber}
 use Rattle.processes.specs.declared.outcome.Response.{Response}

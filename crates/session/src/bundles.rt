@@ -1,6 +1,6 @@
 //! The bundles of a script.
-use call_tables::Arch;
 use cert_check::Checked;
+use machines::Arch;
 
 /// A checked filter, and what a script calls it.
 #[derive(Clone, Copy)]

@@ -11,8 +11,8 @@ ghost use Rattle.session.specs.inner.Carried.{CarriesOut, Fits, Replies, id_in, 
 
 use crate::bundles::Bundles;
 use call_record::Record;
-use call_tables::Arch;
 use lifecycle::{Command, Reply, Runtime};
+use machines::Arch;
 use processes::Response;
 use script::{Hex, MAX_LINE, Request};
 use shared_table::SharedTable;

@@ -2,13 +2,13 @@
 ghost use Rattle.std.specs.Prelude.{◌≡◌, ℕ, List, MatchOption};
 ghost use Rattle.std.specs.Option.{option_map};
 ghost use Rattle.script.specs.inner.Reading.{number_at};
-ghost use Rattle.call_tables.specs.Arch.{family_of};
-ghost use Rattle.call_tables.specs.declared.arch.Family.TheVariants.{Whole};
+ghost use Rattle.machines.specs.Arch.{family_of};
+ghost use Rattle.machines.specs.declared.arch.Family.TheVariants.{Whole};
 ghost use Rattle.processes.specs.declared.outcome.Response.{Response};
 ghost use Rattle.session.specs.Responses.{Parted, Responds};
 ghost use Rattle.session.specs.inner.Responding.{ended_at, error_at, last_split, numbered_end, worded};
 
-use call_tables::{Arch, Family};
+use machines::{Arch, Family};
 use processes::Response;
 use script::MAX_LINE;
 use texts::{decimal, hexadecimal};

@@ -5,8 +5,8 @@ ghost use Rattle.shared_table.specs.Tree.{IsTree};
 use crate::node::Node;
 use crate::numbers::Numbers;
 use call_record::{Record, Word, stricter};
-use call_tables::Arch;
 use kernel_check::{Accepted, AcceptedBuf};
+use machines::Arch;
 use processes::Store;
 use std::alloc::{AllocError, Global};
 
@@ -28,7 +28,7 @@ pub struct Place {
 impl Tree {
     ghost use Rattle.std.specs.Prelude.{ℕ, ◌+◌, ◌<◌, ◌≤◌, ◌&&◌, IfSome, MatchOption, Some, length, map, nat_lt, slice_get};
     ghost use Rattle.call_record.specs.Verdict.{strictest_of};
-    ghost use Rattle.call_tables.specs.Arch.{token_of};
+    ghost use Rattle.machines.specs.Arch.{token_of};
     ghost use Rattle.kernel_check.specs.Lent.{accepted_insns};
     ghost use Rattle.processes.specs.Stores.{size_beside};
     ghost use Rattle.shared_table.specs.Store.{filters_of, way_of};

@@ -1,8 +1,8 @@
 -- What a filter costs a call.
 use Rattle.std.specs.Prelude.{ℕ, ◌≡◌, ◌&&◌, nat_lt, List}
 use Rattle.bpf_insn.specs.declared.instruction.Insn.{Insn}
-use Rattle.call_tables.specs.declared.arch.Arch.{Arch}
-use Rattle.call_tables.specs.Arch.{token_of}
+use Rattle.machines.specs.declared.arch.Arch.{Arch}
+use Rattle.machines.specs.Arch.{token_of}
 use Rattle.show.specs.declared.costing.Cost.{Cost}
 use Rattle.show.specs.Answered.{is_answered}
 use Rattle.show.specs.Spans.{IsSpan}

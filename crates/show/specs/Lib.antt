@@ -1,6 +1,8 @@
 pub mod Shown
 pub mod Unread
+pub mod Placed
 pub mod Read
+pub mod Remarked
 pub mod Answered
 pub mod Spans
 pub mod Costs

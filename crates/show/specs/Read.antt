@@ -1,17 +1,19 @@
 -- What is told of a bundle that is read: what it means, or why it is refused.
-use Rattle.std.specs.Prelude.{ℕ, ◌≡◌, ◌≢◌, ◌⊎◌, ◌≤◌, ◌+◌, ◌-◌, false, if◌then◌else◌, List, [], ◌∷◌, ◌++◌}
-use Rattle.std.specs.Prelude.{codes, drop, take, unwrap_or, length, IfSome}
+use Rattle.std.specs.Prelude.{ℕ, ◌≡◌, ◌≢◌, ◌⊎◌, ◌+◌, ◌-◌, false, if◌then◌else◌, List, [], ◌∷◌, ◌++◌}
+use Rattle.std.specs.Prelude.{codes, drop, take, unwrap_or, IfSome}
 use Rattle.std.specs.Fmt.{decimal}
 use Rattle.std.specs.List.{flat_map}
 use Rattle.std.specs.Str.{bytes_eq}
 use Rattle.texts.specs.Lines.{line_feed}
-use Rattle.call_tables.specs.declared.arch.Arch.{Arch}
-use Rattle.call_tables.specs.Arch.{machine_name, table_of}
+use Rattle.machines.specs.declared.arch.Arch.{Arch}
+use Rattle.machines.specs.Arch.{machine_name}
+use Rattle.call_tables.specs.Tables.{table_of}
 use Rattle.call_tables.specs.Table.{name_in}
 use Rattle.profile.specs.declared.conditions.Cond.{Cond}
 use Rattle.profile.specs.declared.rules.Rule.{Rule}
 use Rattle.profile.specs.Policy.{Policy}
-use Rattle.profile_json.specs.Breaks.{Breaks}
+use Rattle.profile_json.specs.Place.{BreaksAt}
+use Rattle.profile_json.specs.declared.refusal.Place.{Place}
 use Rattle.profile_json.specs.Fault.{fault_of, text_of}
 use Rattle.profile_json.specs.declared.fault.ProfileError.{ProfileError}
 use Rattle.profile_json.specs.declared.fault.ProfileError.TheVariants.{OutOfMemory, Version}
@@ -19,6 +21,7 @@ use Rattle.wording.specs.declared.told.Told.{Told}
 use Rattle.wording.specs.Phrases.{action_text, condition_text}
 use Rattle.wording.specs.Told.{TellsText}
 use Rattle.wording.specs.Understood.{IsReadAs}
+use Rattle.show.specs.Placed.{path}
 use Rattle.show.specs.Unread.{TellsBeside, TellsUnread}
 
 -- the line of the machines
@@ -74,31 +77,34 @@ pub record TellsMeaning (native : Arch) (bundle : List ℕ) (told : Told) : Type
   pub read : IsReadAs native bundle policy rules ends
   pub tells : TellsText (bundle_text policy rules ends) told
 
--- the bundle is refused for a fault that it has; the first line says so, and what is behind it says where
+-- a line that begins with the path of a place
+abbrev pub IsPlaceLine : Place → List ℕ → Type 0
+IsPlaceLine place line = (rest : List ℕ) × (line ≡ codes "at " ++ (path place ++ rest))
+
+-- the bundle is refused for a fault that it has; the first line says so, and the line behind it at which place the fault stands
 pub record TellsFault (native : Arch) (bundle : List ℕ) (told : Told) : Type 0 where
   pub error : ProfileError
   pub is_fault : error ≢ OutOfMemory
-  pub stands : IfSome (fault_of error) (Breaks bundle native)
-  pub place : List ℕ
-  pub tells : told.bytes.items ≡ codes "refused profile " ++ text_of error ++ line_feed ∷ place
+  pub place : Place
+  pub stands : IfSome (fault_of error) (BreaksAt bundle native place)
+  pub line : List ℕ
+  pub is_line : IsPlaceLine place line
+  pub tells : told.bytes.items ≡ codes "refused profile " ++ text_of error ++ line_feed ∷ line
   pub done : told.done ≡ false
 
 -- the bundle's edition is refused, and it was not done; nothing is said of the text
 pub record TellsEdition (native : Arch) (bundle : List ℕ) (told : Told) : Type 0 where
-  pub stands : IfSome (fault_of Version) (Breaks bundle native)
+  pub place : Place
+  pub stands : IfSome (fault_of Version) (BreaksAt bundle native place)
   pub done : told.done ≡ false
 
 abbrev pub IsRead : Arch → List ℕ → Told → Type 0
 IsRead native bundle told = TellsMeaning native bundle told ⊎ (TellsFault native bundle told ⊎ TellsEdition native bundle told)
 
 -- behind this the lines are told of flags and listener, and of what stands in the bundle and is not read
-pub record IsReadBehind (native : Arch) (bundle : List ℕ) (told : Told) : Type 0 where
+pub record IsReadOut (native : Arch) (bundle : List ℕ) (told : Told) : Type 0 where
   pub inner : Told
   pub is_read : IsRead native bundle inner
   pub middle : Told
   pub beside : TellsBeside native bundle inner middle
   pub unread : TellsUnread native bundle middle told
-
--- so it is of a bundle of at most 1 MiB; of a longer one members that are not read are left out first
-abbrev pub IsReadOut : Arch → List ℕ → Told → Type 0
-IsReadOut native bundle told = length bundle ≤ 1048576 → IsReadBehind native bundle told

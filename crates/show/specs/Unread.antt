@@ -1,6 +1,6 @@
 -- What is told of a bundle, with what stands in it beside its profile, or is not read.
 use Rattle.std.specs.Prelude.{ℕ, ◌≡◌, ◌⊎◌, ◌&&◌, ◌==◌, true, false, List, ◌++◌, length}
-use Rattle.call_tables.specs.declared.arch.Arch.{Arch}
+use Rattle.machines.specs.declared.arch.Arch.{Arch}
 use Rattle.section.specs.Beside.{AreBeside}
 use Rattle.section.specs.Unread.{AreUnread}
 use Rattle.wording.specs.declared.told.Told.{Told}

@@ -11,8 +11,9 @@ use crate::flow::{Known, is_jump, targets};
 use crate::lines::Lines;
 use bpf_insn::{Insn, Operation, Program, ViewError};
 use call_record::Word;
-use call_tables::{Arch, LEAST_X32_NUMBER};
+use call_tables::call_name;
 use kernel_check::{Refused, accept};
+use machines::{Arch, LEAST_X32_NUMBER};
 use std::alloc::{AllocError, Global};
 use std::fmt::Write;
 use wording::{ActionText, Told, machine_of, machine_with};
@@ -37,12 +38,12 @@ fn put_word_name(text: &mut String, offset: u32) -> Result<(), AllocError> {
 }
 
 // What a number stands for that is compared with the number of a call, on a machine.
-fn call_name(machine: Arch, number: u32) -> &'static str {
+fn meaning_of(machine: Arch, number: u32) -> &'static str {
     if number == LEAST_X32_NUMBER {
         return "x32 calls";
     }
     let machine = machine_with(machine.family(), machine.token(), number).unwrap_or(machine);
-    machine.name(number).unwrap_or("no call")
+    call_name(machine, number).unwrap_or("no call")
 }
 
 // Adds what a number that is compared stands for, by the offset of the record's word that A holds.
@@ -54,7 +55,7 @@ fn put_compared(
     number: u32,
 ) -> Result<(), AllocError> {
     match offset {
-        0 => text.push_str(call_name(machine.unwrap_or(native), number)),
+        0 => text.push_str(meaning_of(machine.unwrap_or(native), number)),
         4 => {
             let machine = machine_of(native.family(), number).map_or(
                 "another machine",

@@ -9,8 +9,9 @@ use crate::annotating::{no_program, with_cause};
 use crate::answered::is_answered;
 use crate::spans::{Span, span_of};
 use bpf_insn::Program;
-use call_tables::{Arch, Numbers};
+use call_tables::call_name;
 use kernel_check::{Accepted, accept};
+use machines::{Arch, Numbers};
 use std::alloc::{AllocError, Global};
 use std::fmt::Write;
 use wording::Told;
@@ -81,7 +82,7 @@ fn add_cost(
     machine: Arch,
     nr: u32,
 ) -> Result<(), AllocError> {
-    if machine.name(nr).is_none() {
+    if call_name(machine, nr).is_none() {
         return Ok(());
     }
     let cost = cost_of(alloc, accepted, machine, nr)?;
@@ -137,7 +138,7 @@ fn count_of(costs: &[Cost], group: Group) -> usize {
 
 // Adds the name of a call, and a comma before it if it is not the first one.
 fn put_name(text: &mut String, machine: Arch, nr: u32, place: usize) -> Result<(), AllocError> {
-    let name = machine.name(nr).unwrap_or("");
+    let name = call_name(machine, nr).unwrap_or("");
     let comma = if place == 0 { "" } else { ", " };
     write!(text, "{comma}{name}")
 }

@@ -7,7 +7,7 @@ use crate::flow::{Known, targets};
 use crate::lines::Lines;
 use bpf_insn::{Insn, Operation, Program};
 use call_record::Word;
-use call_tables::Arch;
+use machines::Arch;
 use std::alloc::{AllocError, Global};
 use std::fmt::Write;
 use wording::Told;

@@ -1,5 +1,5 @@
 //! The edition of a bundle.
-use call_tables::Family;
+use machines::Family;
 use serde_json::Value;
 use std::alloc::{AllocError, Global};
 use std::fmt::Write;

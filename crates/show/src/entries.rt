@@ -1,13 +1,14 @@
 //! What a bundle means, a line an entry.
 ghost use Rattle.std.specs.Prelude.{◌≡◌, ◌++◌, ◌-◌, ◌∷◌, ℕ, List, [], IfOk, codes, drop, string_bytes, take};
 ghost use Rattle.std.specs.List.{flat_map};
-ghost use Rattle.call_tables.specs.Arch.{machine_name};
+ghost use Rattle.machines.specs.Arch.{machine_name};
 ghost use Rattle.profile.specs.declared.rules.Rule.{Rule as TheRule};
 ghost use Rattle.wording.specs.Phrases.{condition_text};
 ghost use Rattle.show.specs.Read as spec;
 
 use call_record::Word;
-use call_tables::Arch;
+use call_tables::call_name;
+use machines::Arch;
 use profile::{Cond, Profile, Rule};
 use profile_json::EntryRules;
 use std::alloc::AllocError;
@@ -47,7 +48,7 @@ fn put_default(text: &mut String, word: Word) -> Result<(), AllocError>
 fn name_of(rule: &Rule) -> &'static str
     ensures { result.now ≡ spec.name_of rule.now }
 {
-    match rule.arch.name(rule.nr) {
+    match call_name(rule.arch, rule.nr) {
         Some(name) => name,
         None => "",
     }

@@ -1,6 +1,6 @@
 //! What is known before each instruction of a filter, whatever the record is.
 use bpf_insn::{Insn, Operand, Operation, Program, Test};
-use call_tables::{Arch, Family};
+use machines::{Arch, Family};
 use std::alloc::{AllocError, Global};
 use wording::machine_of;
 

@@ -2,7 +2,7 @@
 use crate::flow::{Known, flow, labels};
 use bpf_asm::disassemble;
 use bpf_insn::Program;
-use call_tables::Arch;
+use machines::Arch;
 use std::alloc::{AllocError, Global};
 
 /// A program's listing, what is known before each instruction, and which of them jumps lead to.

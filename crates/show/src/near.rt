@@ -1,5 +1,6 @@
 //! The names of calls that are nearest to a name.
-use call_tables::{Arch, Family};
+use call_tables::{call_name, call_number};
+use machines::{Arch, Family};
 use std::alloc::{AllocError, Global};
 use std::fmt::Write;
 use strsim::levenshtein;
@@ -9,7 +10,7 @@ const FAR: usize = 3;
 
 // How far the name of a machine's call is from a name: 3 edits are too far, as is a number without a call.
 fn distance(alloc: Global, arch: Arch, number: u32, name: &str) -> Result<usize, AllocError> {
-    match arch.name(number) {
+    match call_name(arch, number) {
         Some(other) => Ok(levenshtein(alloc, name, other)?.min(FAR)),
         None => Ok(FAR),
     }
@@ -28,7 +29,9 @@ fn least_distance(alloc: Global, arch: Arch, name: &str) -> Result<usize, AllocE
 
 // Whether one of the machines has a call of the name.
 fn is_told(machines: &[Arch], name: &str) -> bool {
-    machines.iter().any(|arch| arch.number(name).is_some())
+    machines
+        .iter()
+        .any(|arch| call_number(*arch, name).is_some())
 }
 
 // Adds a machine's names at a distance from a name, but none that the machines before it have.
@@ -42,7 +45,7 @@ fn put_at(
     for numbers in arch.call_numbers() {
         for number in numbers.first..numbers.last.saturating_add(1) {
             if distance(alloc, arch, number, name)? == least {
-                let other = arch.name(number).unwrap_or("");
+                let other = call_name(arch, number).unwrap_or("");
                 if !is_told(before, other) {
                     write!(text, " {other}")?;
                 }

@@ -1,11 +1,8 @@
 //! What a bundle means, or where it is wrong.
 ghost use Rattle.std.specs.Prelude.{◌≡◌, ◌≢◌, ◌≤◌, ◌⊎◌, ◌++◌, ◌∷◌, [], ℕ, List, IfOk, IfSome, codes, false, length, string_bytes};
 ghost use Rattle.texts.specs.Lines.{line_feed};
-ghost use Rattle.profile_json.specs.Breaks.{Breaks};
-ghost use Rattle.profile_json.specs.ByEntry.{AreRulesOf};
+ghost use Rattle.profile_json.specs.Place.{BreaksAt};
 ghost use Rattle.profile_json.specs.Fault.{fault_of, text_of};
-ghost use Rattle.profile_json.specs.Meaning.{IsText, Means};
-ghost use Rattle.serde_json.specs.Data.{Data};
 ghost use Rattle.wording.specs.Told.{TellsText};
 ghost use Rattle.show.specs.Read as spec;
 
@@ -14,15 +11,15 @@ use crate::entries::put_bundle;
 use crate::json_text::{Trimmed, fault_of, without_unread};
 use crate::near::put_nearest;
 use crate::place::{Place, shape_of};
-use crate::search::{Found, Wanted, find, find_in_config};
+use crate::placed::{prefix_of, rest_of};
+use crate::search::{Found, Wanted, Within, find, find_in_config};
 use crate::unread::{with_beside, with_unread};
-use call_tables::{Arch, Family};
-use profile::Profile;
-use profile_json::{EntryRules, ProfileError, read_bundle, rules_by_entry};
+use machines::{Arch, Family};
+use profile_json::{Bundle, Document, ProfileError, Refusal};
 use serde_json::Value;
 use std::alloc::{AllocError, Global};
 use std::fmt::Write;
-use wording::{Told, refused_profile};
+use wording::Told;
 
 // Adds why a text is no name that is known.
 fn put_unknown(text: &mut String, found: &Found<'_>, what: &str) -> Result<(), AllocError> {
@@ -126,14 +123,23 @@ fn put_if_found(
     }
 }
 
+// The entries of a bundle in which the fault stands of a place.
+fn within(place: profile_json::Place) -> Within {
+    match place {
+        profile_json::Place::Entry(at, _) => Within::One(at),
+        _ => Within::None,
+    }
+}
+
 // Adds the line of the place of a fault.
 fn put_place(
     text: &mut String,
     alloc: Global,
     family: Family,
     value: &Value,
-    error: &ProfileError,
+    refusal: &Refusal,
 ) -> Result<(), AllocError> {
+    let error = &refusal.error;
     if let Some((first, second)) = overlap_in(error) {
         return put_overlap(text, first, second);
     }
@@ -142,28 +148,35 @@ fn put_place(
         number,
         family,
         is_config: false,
+        within: within(refusal.place),
     };
     put_if_found(text, alloc, family, find(wanted, value), error)
 }
 
-// Adds the line of the place of a fault, which is a line and a column where the text is no JSON.
-fn put_fault(
-    text: &mut String,
-    alloc: Global,
-    family: Family,
-    bundle: &[u8],
-    error: &ProfileError,
-) -> Result<(), AllocError> {
-    text.push_str("at ")?;
-    match Value::from_slice(alloc, bundle) {
-        Ok(value) => put_place(text, alloc, family, &value, error),
+// Adds the line and the column at which a text is no JSON.
+fn put_syntax(text: &mut String, alloc: Global, bytes: &[u8]) -> Result<(), AllocError> {
+    match Value::from_slice(alloc, bytes) {
+        Ok(_) => Ok(()),
         Err(error) => {
             if error.is_memory() {
                 return Err(AllocError);
             }
-            let fault = fault_of(alloc, bundle, &error);
+            let fault = fault_of(alloc, bytes, &error);
             writeln!(text, "{fault}")
         }
+    }
+}
+
+// Adds the line of the place of a fault.
+fn put_fault(
+    text: &mut String,
+    alloc: Global,
+    document: &Document,
+    refusal: &Refusal,
+) -> Result<(), AllocError> {
+    match document.tree() {
+        Ok(value) => put_place(text, alloc, document.native().family(), value, refusal),
+        Err(_) => put_syntax(text, alloc, document.bytes()),
     }
 }
 
@@ -188,22 +201,32 @@ pub fn fault_in(
         number,
         family,
         is_config: true,
+        within: Within::All,
     };
     let found = find_in_config(wanted, config.root, config.top, config.section);
     put_if_found(&mut text, alloc, family, found, error)?;
     Ok(text)
 }
 
-// The line of the place of a fault.
-fn place_line(
-    alloc: Global,
-    family: Family,
-    bundle: &[u8],
-    error: &ProfileError,
-) -> Result<String, AllocError> {
+// What is told of the place of a fault.
+fn found_line(alloc: Global, document: &Document, refusal: &Refusal) -> Result<String, AllocError> {
     let mut text = String::new(alloc);
-    put_fault(&mut text, alloc, family, bundle, error)?;
+    put_fault(&mut text, alloc, document, refusal)?;
     Ok(text)
+}
+
+/// The line of the place of a fault: the place that was told with it, and what stands there.
+pub(crate) fn place_line(
+    alloc: Global,
+    document: &Document,
+    refusal: &Refusal,
+) -> Result<String, AllocError>
+    ensures { IfOk result (λ line. spec.IsPlaceLine refusal.now.place (string_bytes line)) }
+{
+    let found = found_line(alloc, document, refusal)?;
+    let prefix = prefix_of(alloc, refusal.place)?;
+    let rest = rest_of(&found, &prefix);
+    format!(in alloc; "at {prefix}{rest}")
 }
 
 // Adds why a bundle is refused, and the line of the place.
@@ -223,56 +246,36 @@ fn refused_at(mut text: String, place: &str, error: ProfileError) -> Result<Told
 fn refused(
     text: String,
     alloc: Global,
-    family: Family,
-    bundle: &[u8],
-    error: ProfileError,
+    document: &Document,
+    refusal: &Refusal,
 ) -> Result<Told, AllocError>
-    ensures { IfOk result (λ told. (told.done ≡ false) × ((place : List ℕ) × (told.bytes.items
-        ≡ string_bytes text ++ (codes "refused profile " ++ (text_of error ++ line_feed ∷ place))))) }
+    ensures { IfOk result (λ told. (told.done ≡ false) × ((line : List ℕ) × spec.IsPlaceLine refusal.now.place line × (told.bytes.items
+        ≡ string_bytes text ++ (codes "refused profile " ++ (text_of refusal.now.error ++ line_feed ∷ line))))) }
 {
-    let place = place_line(alloc, family, bundle, &error)?;
-    refused_at(text, &place, error)
+    let line = place_line(alloc, document, refusal)?;
+    refused_at(text, &line, refusal.error)
 }
 
 // What a bundle means, behind a text.
-fn meaning_of(mut text: String, profile: &Profile, all: &EntryRules) -> Result<Told, AllocError>
-    ensures { IfOk result (TellsText (string_bytes text ++ spec.bundle_text profile.now all.now.rules.items all.now.ends.items)) }
+fn meaning_of(mut text: String, bundle: &Bundle) -> Result<Told, AllocError>
+    ensures { IfOk result (TellsText (string_bytes text
+        ++ spec.bundle_text bundle.now.profile bundle.now.by_entry.rules.items bundle.now.by_entry.ends.items)) }
 {
-    put_bundle(&mut text, profile, all)?;
+    put_bundle(&mut text, &bundle.profile, &bundle.by_entry)?;
     Ok(Told {
         bytes: text.into_bytes(),
         done: true,
     })
 }
 
-// What a bundle means, by its profile, behind a text.
-fn meaning(
-    text: String,
-    alloc: Global,
-    native: Arch,
-    bundle: &[u8],
-    profile: &Profile,
-) -> Result<Told, AllocError>
-    ensures { string_bytes text ≡ [] → (t : Data) → IsText bundle.now t → Means t native profile.now
-        → IfOk result (spec.IsRead native bundle.now) }
-{
-    match rules_by_entry(alloc, bundle, native) {
-        Ok(all) => meaning_of(text, profile, &all),
-        Err(error) => refused_profile(alloc, error),
-    }
-}
-
 // Adds what a bundle means, or why and where it is refused.
-fn read_behind(
-    text: String,
-    alloc: Global,
-    native: Arch,
-    bundle: &[u8],
-) -> Result<Told, AllocError> {
-    match read_bundle(alloc, bundle, native) {
-        Ok(read) => meaning(text, alloc, native, bundle, &read.profile),
-        Err(ProfileError::OutOfMemory) => Err(AllocError),
-        Err(error) => refused(text, alloc, native.family(), bundle, error),
+fn read_behind(text: String, alloc: Global, document: &Document) -> Result<Told, AllocError> {
+    match document.outcome() {
+        Ok(read) => meaning_of(text, read),
+        Err(refusal) => match refusal.error {
+            ProfileError::OutOfMemory => Err(AllocError),
+            _ => refused(text, alloc, document, refusal),
+        },
     }
 }
 
@@ -288,74 +291,56 @@ fn not_done(told: Told) -> Told
 
 // Tells what a bundle means, or why and where it is refused. An edition that begins with `1.` is told, and read as the first, but
 // it is refused.
-fn read_trimmed(alloc: Global, native: Arch, bundle: &[u8]) -> Result<Told, AllocError> {
+fn read_trimmed(alloc: Global, document: &Document) -> Result<Told, AllocError> {
     let mut text = String::new(alloc);
-    match of_first_edition(alloc, &mut text, native.family(), bundle)? {
+    let native = document.native();
+    match of_first_edition(alloc, &mut text, native.family(), document.bytes())? {
         Some(other) => {
-            let told = read_behind(text, alloc, native, &other)?;
+            let told = read_behind(text, alloc, &Document::new(alloc, other, native))?;
             Ok(not_done(told))
         }
-        None => read_behind(text, alloc, native, bundle),
+        None => read_behind(text, alloc, document),
     }
 }
 
 // The same of a bundle whose edition is refused: it was not done, whatever is told.
-fn read_as_first(alloc: Global, native: Arch, bundle: &[u8]) -> Result<Told, AllocError>
+fn read_as_first(alloc: Global, document: &Document) -> Result<Told, AllocError>
     ensures { IfOk result (λ told. told.done ≡ false) }
 {
-    let told = read_trimmed(alloc, native, bundle)?;
+    let told = read_trimmed(alloc, document)?;
     Ok(not_done(told))
 }
 
 // Tells why and where a bundle is refused. One with another edition may be read as the first.
-fn not_read(
-    alloc: Global,
-    native: Arch,
-    bundle: &[u8],
-    error: ProfileError,
-) -> Result<Told, AllocError>
-    ensures { IfSome (fault_of error) (Breaks bundle.now native) → IfOk result (spec.IsRead native bundle.now) }
+fn not_read(alloc: Global, document: &Document, refusal: &Refusal) -> Result<Told, AllocError>
+    ensures { IfSome (fault_of refusal.now.error) (BreaksAt document.now.bytes document.now.native refusal.now.place)
+        → IfOk result (spec.IsRead document.now.native document.now.bytes) }
 {
-    match error {
+    match refusal.error {
         ProfileError::OutOfMemory => Err(AllocError),
-        ProfileError::Version => read_as_first(alloc, native, bundle),
-        _ => refused(String::new(alloc), alloc, native.family(), bundle, error),
+        ProfileError::Version => read_as_first(alloc, document),
+        _ => refused(String::new(alloc), alloc, document, refusal),
     }
 }
 
-// The same of a bundle of which all members are read.
-fn read_whole(alloc: Global, native: Arch, bundle: &[u8]) -> Result<Told, AllocError>
-    ensures { IfOk result (spec.IsRead native bundle.now) }
+// Tells what a bundle means, or why and where it is refused.
+fn read_whole(alloc: Global, document: &Document) -> Result<Told, AllocError>
+    ensures { IfOk result (spec.IsRead document.now.native document.now.bytes) }
 {
-    match read_bundle(alloc, bundle, native) {
-        Ok(read) => meaning(String::new(alloc), alloc, native, bundle, &read.profile),
-        Err(error) => not_read(alloc, native, bundle, error),
+    match document.outcome() {
+        Ok(read) => meaning_of(String::new(alloc), read),
+        Err(refusal) => not_read(alloc, document, refusal),
     }
 }
 
-// How many bytes of a bundle are read as they are: of a longer one what is not read is left out first.
-const MOST_WHOLE: usize = 1 << 20;
-
-// What a bundle means, or where it is wrong.
-fn read_text(alloc: Global, native: Arch, bundle: &[u8]) -> Result<Told, AllocError>
-    ensures { IfOk result (λ told. length bundle.now ≤ 1048576 → spec.IsRead native bundle.now told) }
+/// Tells what a bundle means. This is its machines, what is said of calls that no entry matches, a line for each entry, and the flags and
+/// the listener. Of a bundle that is refused, it is why, and the place of the fault. Behind it stands a line for each member that is not
+/// read.
+pub fn read_out(alloc: Global, document: &Document) -> Result<Told, AllocError>
+    ensures { IfOk result (spec.IsReadOut document.now.native document.now.bytes) }
 {
-    if bundle.len() <= MOST_WHOLE {
-        return read_whole(alloc, native, bundle);
-    }
-    match without_unread(alloc, bundle, READ)? {
-        Some(Trimmed { text, .. }) => read_trimmed(alloc, native, &text),
-        None => read_trimmed(alloc, native, bundle),
-    }
-}
-
-/// Tells what a bundle, which is read for a native machine, means. This is its machines, what is said of calls that no entry matches, a
-/// line for each entry, and the flags and the listener. Of a bundle that is refused, it is why, and the place of the fault. Behind it
-/// stands a line for each member that is not read.
-pub fn read_out(alloc: Global, native: Arch, bundle: &[u8]) -> Result<Told, AllocError>
-    ensures { IfOk result (spec.IsReadOut native bundle.now) }
-{
-    let meaning = read_text(alloc, native, bundle)?;
-    let told = with_beside(alloc, native, bundle, meaning)?;
-    with_unread(alloc, native, bundle, told)
+    let native = document.native();
+    let meaning = read_whole(alloc, document)?;
+    let told = with_beside(alloc, native, document.bytes(), meaning)?;
+    with_unread(alloc, native, document.bytes(), told)
 }

@@ -1,7 +1,9 @@
 //! The place where a bundle has a fault: the first in the order in which a bundle is read.
-use crate::known::{FLAGS, OPERATORS, TAKING_DATA, is_action, is_one_of, reads_more};
+use crate::known::{FLAGS, TAKING_DATA, is_action, is_one_of, reads_more};
 use crate::place::{ARG, ENTRY, HEAD, Key, LISTENER, NAMES, Place, ROOT, SYSCALLS, Shape};
-use call_tables::Family;
+use call_tables::call_number;
+use machines::Family;
+use profile_json::{OPERATORS, key};
 use serde_json::Value;
 
 /// A place with a fault: what stands there, if something does, and what has to.
@@ -12,6 +14,24 @@ pub(crate) struct Found<'a> {
     pub(crate) asked: Shape,
 }
 
+/// The entries in which a fault is looked for.
+#[derive(Clone, Copy)]
+pub(crate) enum Within {
+    All,
+    One(usize),
+    None,
+}
+
+impl Within {
+    fn has(self, entry: usize) -> bool {
+        match self {
+            Within::All => true,
+            Within::One(at) => at == entry,
+            Within::None => false,
+        }
+    }
+}
+
 /// A fault that is looked for, by its number. It is looked for in a bundle for the machines of a family. Or it is in an engine's
 /// configuration, as that is once what can be mended is. There a member that is null is as good as missing, and no edition or list of names
 /// is missed.
@@ -20,6 +40,7 @@ pub(crate) struct Wanted {
     pub(crate) number: u32,
     pub(crate) family: Family,
     pub(crate) is_config: bool,
+    pub(crate) within: Within,
 }
 
 // The member under a key that says something.
@@ -71,7 +92,7 @@ fn takes_data(object: &Value) -> bool {
 // Whether a condition's second value has a bit that its first has not.
 fn has_stray_bit(object: &Value) -> bool {
     let second = whole_at(object, "valueTwo");
-    text_at(object, "op") == "SCMP_CMP_MASKED_EQ" && second & whole_at(object, "value") != second
+    text_at(object, "op") == key::MASKED_EQ && second & whole_at(object, "value") != second
 }
 
 // Whether a key is used that is not supported: of the machines of whole tables metadata without a listener.
@@ -149,7 +170,7 @@ fn is_known(family: Family, name: &str) -> bool {
     family
         .machines()
         .iter()
-        .any(|arch| arch.number(name).is_some())
+        .any(|arch| call_number(*arch, name).is_some())
 }
 
 // Whether the name is that of a machine of the family.
@@ -264,6 +285,9 @@ fn at_entry<'a>(wanted: Wanted, place: Place, entry: &'a Value) -> Option<Found<
 // The first place at or in an entry at which the fault stands.
 fn at_entries<'a>(wanted: Wanted, place: Place, entries: &'a [Value]) -> Option<Found<'a>> {
     for (entry, value) in entries.iter().enumerate() {
+        if !wanted.within.has(entry) {
+            continue;
+        }
         let here = Place {
             entry: Some(entry),
             ..place

@@ -2,7 +2,7 @@
 ghost use Rattle.std.specs.Prelude.{◌≡◌, ◌&&◌, ◌++◌, ◌==◌, IfOk, length};
 ghost use Rattle.show.specs.Unread.{RefusesUnread, TellsBeside, TellsUnread};
 
-use call_tables::Arch;
+use machines::Arch;
 use section::{beside_of, unread_of};
 use std::alloc::{AllocError, Global};
 use wording::Told;

@@ -7,9 +7,9 @@ use Rattle.std.proofs.lemmas.Nat.{and_mask, and_assoc, and_comm}
 use Rattle.std.proofs.Math.Nat.{mod-eq_of_lt}
 use Rattle.call_record.specs.Words.{IsRecord, argument}
 use Rattle.call_record.proofs.RecordLemmas.{argument-words_from}
-use Rattle.call_tables.specs.declared.arch.Arch.{Arch}
-use Rattle.call_tables.specs.Arch.{token_of}
-use Rattle.call_tables.specs.Width.{compared, is_narrow}
+use Rattle.machines.specs.declared.arch.Arch.{Arch}
+use Rattle.machines.specs.Arch.{token_of}
+use Rattle.machines.specs.Width.{compared, is_narrow}
 use Rattle.profile.specs.declared.conditions.Cond.{Cond}
 use Rattle.profile.specs.declared.conditions.Op.{Op}
 use Rattle.profile.specs.declared.conditions.Op.TheVariants.{MaskedEq}

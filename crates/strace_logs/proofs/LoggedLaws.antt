@@ -9,16 +9,16 @@ use Rattle.std.proofs.lemmas.List.Folds.{list_all-map}
 use Rattle.strace_logs.specs.declared.logged.LogCall.{LogCall}
 use Rattle.strace_logs.specs.inner.Views.{all_logged, logged}
 use Rattle.std.proofs.lemmas.Bool.Decides.{nat_tests}
-use Rattle.call_tables.specs.declared.arch.Arch.{Arch}
-use Rattle.strace_logs.specs.Line.{call_in, is_raw}
+use Rattle.machines.specs.declared.arch.Arch.{Arch}
+use Rattle.strace_logs.specs.Line.{shown_in, is_raw}
 use Rattle.wording.specs.Lines.{lines_of}
 use Rattle.strace_logs.specs.Logged.{Logged, calls_from, are_raw, calls_of, told_on}
 
 pub calls_step : (native : Arch) (log : List ℕ) (n : ℕ) (text : List ℕ) (r : Option (Bor (List ℕ) × Bor (List ℕ)))
     → MatchOption r (lines_of text ≡ text ∷ []) (λ p. lines_of text ≡ p.0.now ∷ lines_of p.1.now)
-    → MatchOption r (calls_from native log n (lines_of text) ≡ told_on (call_in native text) log n text)
-    (λ p. calls_from native log n (lines_of text) ≡ told_on (call_in native p.0.now) log n p.0.now ++ calls_from native log (n + 1) (lines_of p.1.now))
-calls_step native log n text None h = ap (calls_from native log n) h ∙ append-nil (told_on (call_in native text) log n text)
+    → MatchOption r (calls_from native log n (lines_of text) ≡ told_on (shown_in native text) log n text)
+    (λ p. calls_from native log n (lines_of text) ≡ told_on (shown_in native p.0.now) log n p.0.now ++ calls_from native log (n + 1) (lines_of p.1.now))
+calls_step native log n text None h = ap (calls_from native log n) h ∙ append-nil (told_on (shown_in native text) log n text)
 calls_step native log n text (Some p) h = ap (calls_from native log n) h
 
 pub more_calls : (a b c d e f : List Logged) → a ≡ b ++ c → d ≡ c ++ e → b ++ d ≡ f → a ++ e ≡ f

@@ -10,13 +10,13 @@ use Rattle.call_record.specs.Record.{words}
 use Rattle.call_record.specs.Verdict.{is_through}
 use Rattle.call_record.specs.Words.{IsRecord}
 use Rattle.call_record.proofs.RecordLemmas.{words-is_record}
-use Rattle.call_tables.specs.declared.arch.Arch.{Arch}
+use Rattle.machines.specs.declared.arch.Arch.{Arch}
 use Rattle.wording.specs.declared.told.Told.{Told}
 use Rattle.profile.specs.declared.rules.Rule.{Rule}
 use Rattle.profile.specs.Policy.{IsClear, Policy, Says}
 use Rattle.profile.specs.Said.{said}
 use Rattle.profile.proofs.SaidLaws.{each_record_is_said_one_verdict}
-use Rattle.strace_logs.specs.Line.{CallParts, call_in, words_of_call}
+use Rattle.strace_logs.specs.Line.{CallParts, shown_in, words_of_call}
 use Rattle.wording.specs.Lines.{lines_of}
 use Rattle.strace_logs.specs.declared.logged.LogCall.{LogCall}
 use Rattle.strace_logs.specs.declared.refusals.RefusedCall.{RefusedCall}
@@ -110,9 +110,9 @@ lines_through : (native : Arch) (p : Policy) (log : List ℕ) (n : ℕ) (lines :
     → All (Lets p) (calls_from native log n lines) ↔ All (LineIsThrough native p) lines
 lines_through native p log n [] = (λ _. All-nil (LineIsThrough native p), λ _. All-nil (Lets p))
 lines_through native p log n (line ∷ lines) =
-    let here = told_on (call_in native line) log n line in
+    let here = told_on (shown_in native line) log n line in
     let more = calls_from native log (n + 1) lines in
-    let told = told_through p (call_in native line) log n line in
+    let told = told_through p (shown_in native line) log n line in
     let later = lines_through native p log (n + 1) lines in (
       λ all. All-cons (LineIsThrough native p) line lines (told.0 (all_left (Lets p) here more all)) (later.0 (all_right (Lets p) here more all)),
       λ all. All-append (Lets p) here more (told.1 (All-head (LineIsThrough native p) line lines all))

@@ -6,7 +6,7 @@ use Rattle.std.proofs.lemmas.Bool.{and_parts, eqb-true}
 use Rattle.std.proofs.lemmas.List.{take_more}
 use Rattle.std.proofs.lemmas.List.Folds.{list_any-append}
 use Rattle.std.proofs.Math.Seq.{drop-cons}
-use Rattle.call_tables.specs.Arch.{token_of}
+use Rattle.machines.specs.Arch.{token_of}
 use Rattle.wording.specs.declared.reason.Reason.{Reason}
 use Rattle.wording.specs.declared.reason.Reason.TheVariants.{Foreign, Entry, Default}
 use Rattle.strace_logs.specs.Replayed.{Refused, firsts_behind, is_alike, same_reason}

@@ -7,11 +7,12 @@ use Rattle.std.specs.Str.{is_utf8}
 use Rattle.texts.specs.Lines.{space}
 use Rattle.texts.specs.Numbers.{decimal_at, hexadecimal_at}
 use Rattle.texts.specs.Splits.{behind, split_at}
-use Rattle.call_tables.specs.declared.arch.Arch.{Arch}
-use Rattle.call_tables.specs.declared.arch.Arch.TheVariants.{X86_64, Aarch64, LinuxX86_64, LinuxX86, LinuxX32}
-use Rattle.call_tables.specs.declared.arch.Arch.TheVariants.{LinuxAarch64, LinuxArm, LinuxRiscv64}
-use Rattle.call_tables.specs.declared.arch.Arch.TheVariants.{LinuxPpc64le, LinuxLoongarch64, LinuxS390x, LinuxS390}
-use Rattle.call_tables.specs.Arch.{table_of, token_of}
+use Rattle.machines.specs.declared.arch.Arch.{Arch}
+use Rattle.machines.specs.declared.arch.Arch.TheVariants.{X86_64, Aarch64, LinuxX86_64, LinuxX86, LinuxX32}
+use Rattle.machines.specs.declared.arch.Arch.TheVariants.{LinuxAarch64, LinuxArm, LinuxRiscv64}
+use Rattle.machines.specs.declared.arch.Arch.TheVariants.{LinuxPpc64le, LinuxLoongarch64, LinuxS390x, LinuxS390}
+use Rattle.machines.specs.Arch.{token_of}
+use Rattle.call_tables.specs.Tables.{table_of}
 use Rattle.call_tables.specs.Table.{number_in}
 use Rattle.call_record.specs.Words.{words_from}
 
@@ -143,31 +144,51 @@ is_raw line = is_raw_behind (split_at 40 line)
 abbrev pub CallParts : Type 0
 CallParts = Arch × ℕ × List ℕ
 
+-- strace has no name for the call, and writes its number in the place of one
+abbrev pub is_unnamed : List ℕ → Bool
+is_unnamed name = is_some (behind (codes "syscall_0x") name)
+
+-- the machine of a call: it is the native one if calls without names are asked for, and this is one
+abbrev pub machine_by : Bool → Arch → List ℕ → ℕ → Option Arch
+machine_by unnamed native name nr = if unnamed && is_unnamed name then Some native else machine_of native name nr
+
 -- the call of this name and number, by what stands behind `(`
-unfoldable pub called : Arch → List ℕ → ℕ → List ℕ → Option CallParts
-called native name nr text = do
-  arch ← machine_of native name nr
+unfoldable pub called : Bool → Arch → List ℕ → ℕ → List ℕ → Option CallParts
+called unnamed native name nr text = do
+  arch ← machine_by unnamed native name nr
   given ← given_at text
   Some (arch, nr, arguments_at given)
 
 -- the call of this number, by what stands behind `]`
-unfoldable pub numbered : Arch → ℕ → List ℕ → Option CallParts
-numbered native nr text = do
+unfoldable pub numbered : Bool → Arch → ℕ → List ℕ → Option CallParts
+numbered unnamed native nr text = do
   parts ← split_at 40 text
   name ← behind (codes " ") parts.0
-  called native name nr parts.1
+  called unnamed native name nr parts.1
 
 -- the call that a line tells, if it tells one: a number in brackets, a space, a name, and arguments in parentheses
-unfoldable pub call_on : Arch → List ℕ → Option CallParts
-call_on native line = do
+unfoldable pub call_by : Bool → Arch → List ℕ → Option CallParts
+call_by unnamed native line = do
   front ← split_at 91 line
   parts ← split_at 93 front.1
   nr ← number_at parts.0
-  numbered native nr parts.1
+  numbered unnamed native nr parts.1
+
+-- the call that a line tells by its name
+abbrev pub call_on : Arch → List ℕ → Option CallParts
+call_on native line = call_by false native line
+
+-- the call that a line tells by its name, or by its number alone
+abbrev pub shown_on : Arch → List ℕ → Option CallParts
+shown_on native line = call_by true native line
 
 -- the call that a line tells of which nothing is known: one that is no UTF-8 tells none
 unfoldable pub call_in : Arch → List ℕ → Option CallParts
 call_in native line = if is_utf8 line then call_on native line else None
+
+-- the same, also by its number alone
+unfoldable pub shown_in : Arch → List ℕ → Option CallParts
+shown_in native line = if is_utf8 line then shown_on native line else None
 
 -- the words of such a call as a filter sees them, made at address 0
 abbrev pub words_of_call : CallParts → List ℕ

@@ -1,8 +1,8 @@
 -- The calls that logs show.
 use Rattle.std.specs.Prelude.{ℕ, ◌+◌, ◌&&◌, Bool, nat_lt, if◌then◌else◌, List, [], ◌∷◌, ◌++◌, Option, Some, None, length, map}
 use Rattle.std.specs.List.{flat_map, list_all}
-use Rattle.call_tables.specs.declared.arch.Arch.{Arch}
-use Rattle.strace_logs.specs.Line.{CallParts, call_in, is_raw, words_of_call}
+use Rattle.machines.specs.declared.arch.Arch.{Arch}
+use Rattle.strace_logs.specs.Line.{CallParts, shown_in, is_raw, words_of_call}
 use Rattle.wording.specs.Lines.{lines_of}
 use Rattle.strace_logs.specs.declared.logs.Log.{Log}
 
@@ -21,7 +21,7 @@ told_on (Some call) log n line = record { arch = call.0; words = words_of_call c
 -- the calls that lines tell, of which the first has this number
 abbrev pub calls_from : Arch → List ℕ → ℕ → List (List ℕ) → List Logged
 calls_from native log n [] = []
-calls_from native log n (line ∷ lines) = told_on (call_in native line) log n line ++ calls_from native log (n + 1) lines
+calls_from native log n (line ∷ lines) = told_on (shown_in native line) log n line ++ calls_from native log (n + 1) lines
 
 -- a log is its name and its text; lines are counted from 1
 abbrev pub calls_of : Arch → List ℕ × List ℕ → List Logged

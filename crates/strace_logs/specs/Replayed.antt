@@ -6,8 +6,9 @@ use Rattle.std.specs.List.{All, flat_map, list_any}
 use Rattle.texts.specs.Lines.{line_feed}
 use Rattle.call_record.specs.Verdict.{Through, is_through}
 use Rattle.call_record.specs.Words.{word}
-use Rattle.call_tables.specs.declared.arch.Arch.{Arch}
-use Rattle.call_tables.specs.Arch.{machine_name, table_of, token_of}
+use Rattle.machines.specs.declared.arch.Arch.{Arch}
+use Rattle.machines.specs.Arch.{machine_name, token_of}
+use Rattle.call_tables.specs.Tables.{table_of}
 use Rattle.call_tables.specs.Table.{name_in}
 use Rattle.profile.specs.declared.rules.Rule.{Rule}
 use Rattle.profile.specs.Policy.{Policy, Says}
@@ -18,7 +19,7 @@ use Rattle.wording.specs.declared.told.Told.{Told}
 use Rattle.wording.specs.Phrases.{action_text}
 use Rattle.wording.specs.Reason.{reason_of}
 use Rattle.wording.specs.Told.{RefusesBundle, TellsLine}
-use Rattle.strace_logs.specs.Line.{call_in, words_of_call}
+use Rattle.strace_logs.specs.Line.{shown_in, words_of_call}
 use Rattle.wording.specs.Lines.{lines_of}
 use Rattle.strace_logs.specs.Logged.{Logged, calls_in, first_none}
 use Rattle.strace_logs.specs.Unused.{unused_text}
@@ -111,7 +112,7 @@ LetsThrough p r = (v : ℕ) × Says p r v × Through v
 
 -- the call that the line tells, if it tells one, is carried out
 abbrev pub LineIsThrough : Arch → Policy → List ℕ → Type 0
-LineIsThrough native p line = IfSome (call_in native line) (λ call. LetsThrough p (words_of_call call))
+LineIsThrough native p line = IfSome (shown_in native line) (λ call. LetsThrough p (words_of_call call))
 
 abbrev pub TextIsThrough : Arch → Policy → List ℕ → Type 0
 TextIsThrough native p text = All (LineIsThrough native p) (lines_of text)

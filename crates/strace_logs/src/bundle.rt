@@ -4,7 +4,7 @@ use crate::keeps::{Keep, WHOLE, low};
 use crate::lists::Otherwise;
 use crate::names::Names;
 use crate::strace::machines_run;
-use call_tables::Arch;
+use machines::Arch;
 use std::alloc::{AllocError, Global};
 use std::fmt::Write;
 

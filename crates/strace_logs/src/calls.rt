@@ -9,7 +9,7 @@ use crate::deeds::Deeds;
 use crate::keeps::{Keep, bits_of, keep_of, values_of};
 use crate::strace::{Call, record_of};
 use call_record::{Record, words_are_a_record};
-use call_tables::Arch;
+use machines::Arch;
 use std::alloc::{AllocError, Global};
 
 /// Calls that logs show: those of a number on a machine whose arguments are these values in so many of their lowest bits.

@@ -5,7 +5,7 @@ ghost use Rattle.strace_logs.specs.Taken.{Agree, Covers, IsNoted};
 use crate::calls::Seen;
 use crate::keeps::{WHOLE, low};
 use crate::strace::Call;
-use call_tables::Arch;
+use machines::Arch;
 
 // Whether a number is a value in so many of the lowest bits.
 fn agree_in(bits: u32, value: u64, number: u64) -> bool

@@ -1,6 +1,7 @@
 //! What logs show of files and processes, and what a longer run may do besides.
 use crate::lists::is_in;
 use crate::strace::Call;
+use call_tables::call_name;
 use std::alloc::AllocError;
 
 /// What records do with files, and how many processes they make.
@@ -88,7 +89,7 @@ impl Deeds {
 
     /// With those of a call.
     pub(crate) fn with(self, call: &Call<'_>) -> Deeds {
-        let name = call.arch.name(call.nr).unwrap_or("");
+        let name = call_name(call.arch, call.nr).unwrap_or("");
         Deeds {
             writes: self.writes || opens_to_write(name, &call.args),
             syncs: is_shown(self.syncs, SYNCS, name),

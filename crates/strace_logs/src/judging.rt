@@ -2,9 +2,9 @@
 ghost use Rattle.std.specs.Prelude.{◌≡◌, ℕ, List, Some, IsTrue};
 ghost use Rattle.std.specs.List.{All};
 ghost use Rattle.call_record.specs.Verdict.{allow};
-ghost use Rattle.call_tables.specs.Arch.{table_of};
+ghost use Rattle.call_tables.specs.Tables.{table_of};
 ghost use Rattle.call_tables.specs.Table.{number_in};
-ghost use Rattle.call_tables.specs.declared.arch.Arch.{Arch};
+ghost use Rattle.machines.specs.declared.arch.Arch.{Arch};
 ghost use Rattle.strace_logs.specs.inner.Seen.{AreSeen};
 ghost use Rattle.strace_logs.specs.Taken.{AllowsEach, IsForEach, IsLow, IsWithin, OneAllows};
 ghost use Rattle.strace_logs.specs.Learned.{IsNamed, IsOfRecord};
@@ -14,6 +14,7 @@ use crate::calls::Seen;
 use crate::keeps::WHOLE;
 use crate::lists::{Otherwise, Runtime, is_listed};
 use call_record::{Word, words_are_a_record};
+use call_tables::{call_name, call_number};
 use profile::{Cond, Op, Profile, Rule, are_for};
 
 // Whether a condition looks at so many of the lowest bits of an argument alone.
@@ -109,7 +110,7 @@ pub(crate) fn allows_seen(profile: &Profile, calls: &[Seen]) -> bool
 fn has_name(call: &Seen, name: &str) -> bool
     ensures { IsTrue result → number_in (table_of call.now.arch) name.now ≡ Some call.now.nr }
 {
-    match call.arch.number(name) {
+    match call_number(call.arch, name) {
         Some(number) => number == call.nr,
         None => false,
     }
@@ -133,7 +134,7 @@ fn is_named(calls: &[Seen], runtime: Option<Runtime>, rule: &Rule) -> bool
     ensures { (native : Arch) (texts : List (List ℕ)) → AreSeen native texts calls.now → IsTrue result
         → IsNamed native texts runtime rule.now }
 {
-    let Some(name) = rule.arch.name(rule.nr) else {
+    let Some(name) = call_name(rule.arch, rule.nr) else {
         return false;
     };
     if is_listed(runtime, name) {

@@ -1,10 +1,11 @@
 //! Calls of which the values of arguments are kept.
 ghost use Rattle.std.specs.Prelude.{◌≡◌, ◌<◌, ◌%◌, ◌^◌};
-ghost use Rattle.call_tables.specs.Arch.{token_of};
+ghost use Rattle.machines.specs.Arch.{token_of};
 ghost use Rattle.strace_logs.specs.Kept as spec;
 
 use crate::strace::{Call, machines_run};
-use call_tables::Arch;
+use call_tables::{call_name, call_number};
+use machines::Arch;
 use widths::cut_bits;
 
 /// A call of which the values of these arguments are kept.
@@ -37,7 +38,7 @@ fn places_of(digits: &str) -> Option<[bool; 6]> {
 /// Whether one of the machines has a call of the name.
 pub(crate) fn is_known(machines: &[Arch], name: &str) -> bool {
     for arch in machines {
-        if arch.number(name).is_some() {
+        if call_number(*arch, name).is_some() {
             return true;
         }
     }
@@ -58,7 +59,7 @@ impl<'a> Keep<'a> {
 
 /// Which of those that are asked for a call is by its name.
 pub(crate) fn keep_of(keeps: &[Keep<'_>], call: &Call<'_>) -> Option<usize> {
-    let name = call.arch.name(call.nr)?;
+    let name = call_name(call.arch, call.nr)?;
     for (place, keep) in keeps.iter().enumerate() {
         if keep.name == name {
             return Some(place);

@@ -1,6 +1,6 @@
 //! A bundle from logs.
 ghost use Rattle.std.specs.Prelude.{◌≡◌, ℕ, List, IfOk, true, false, string_bytes};
-ghost use Rattle.call_tables.specs.declared.arch.Arch.{Arch};
+ghost use Rattle.machines.specs.declared.arch.Arch.{Arch};
 ghost use Rattle.strace_logs.specs.inner.Seen.{IsWeighed};
 ghost use Rattle.strace_logs.specs.Taken.{AreTaken, HaveShown, lines_in};
 ghost use Rattle.strace_logs.specs.Learned.{TellsLearned};
@@ -13,7 +13,7 @@ use crate::names::names_of;
 use crate::reading::Shown;
 use crate::telling::put_learned;
 use crate::wish::Wish;
-use call_tables::Arch;
+use machines::Arch;
 use profile::Profile;
 use profile_json::{ProfileError, read_bundle};
 use std::alloc::{AllocError, Global};

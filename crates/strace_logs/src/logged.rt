@@ -2,14 +2,14 @@
 ghost use Rattle.std.specs.Prelude.{◌≡◌, ◌<◌, ◌+◌, ◌++◌, ◌∷◌, [], IfOk, IfSome, MatchOption, None, Some, length, true};
 ghost use Rattle.std.specs.Option.{option_map};
 ghost use Rattle.std.specs.List.{list_all};
-ghost use Rattle.strace_logs.specs.Line.{call_in, call_on as call_told, is_raw as the_test};
+ghost use Rattle.strace_logs.specs.Line.{is_raw as the_test, shown_in, shown_on as call_told};
 ghost use Rattle.strace_logs.specs.Logged as spec;
 ghost use Rattle.strace_logs.specs.inner.Views.{all_logged, logged};
 
 use crate::logs::Log;
-use crate::strace::{Call, call_on, is_raw};
+use crate::strace::{Call, is_raw, shown_on};
 use call_record::Record;
-use call_tables::Arch;
+use machines::Arch;
 use std::alloc::AllocError;
 use wording::split_line;
 
@@ -47,7 +47,7 @@ fn put_text_line<'a>(
     ensures { IfOk result (λ _. all_logged calls.new.items
         ≡ all_logged calls.old.items ++ spec.told_on (call_told native line.now) log.now number line.now) }
 {
-    match call_on(native, line) {
+    match shown_on(native, line) {
         Some(call) => {
             calls.push(log_call(&call, log, number, line))?;
             Ok(())
@@ -65,7 +65,7 @@ fn put_line<'a>(
     calls: &mut Vec<LogCall<'a>>,
 ) -> Result<(), AllocError>
     ensures { IfOk result (λ _. all_logged calls.new.items
-        ≡ all_logged calls.old.items ++ spec.told_on (call_in native line.now) log.now number line.now) }
+        ≡ all_logged calls.old.items ++ spec.told_on (shown_in native line.now) log.now number line.now) }
 {
     match str::from_utf8(line) {
         Ok(text) => put_text_line(native, log, number, text, calls),

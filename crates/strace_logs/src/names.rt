@@ -2,7 +2,8 @@
 use crate::calls::{Calls, Seen};
 use crate::keeps::{Keep, is_kept, is_known};
 use crate::lists::{FALLBACKS, NEEDED, Otherwise, Runtime, THREADS, is_in, of_first, of_runtime};
-use call_tables::Arch;
+use call_tables::call_name;
+use machines::Arch;
 use std::alloc::{AllocError, Global};
 
 /// The names that a bundle allows whatever the arguments, in order. Also those that are added, each list for its reason, and
@@ -42,7 +43,7 @@ fn put(names: &mut Vec<&'static str>, name: &'static str) -> Result<(), AllocErr
 fn put_shown(names: &mut Vec<&'static str>, seen: &[Seen]) -> Result<(), AllocError> {
     for call in seen {
         if call.is_whole() {
-            if let Some(name) = call.arch.name(call.nr) {
+            if let Some(name) = call_name(call.arch, call.nr) {
                 put(names, name)?;
             }
         }

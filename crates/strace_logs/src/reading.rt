@@ -8,7 +8,7 @@ use crate::calls::{Calls, see};
 use crate::keeps::Keep;
 use crate::strace::call_in;
 use crate::unread::Unread;
-use call_tables::Arch;
+use machines::Arch;
 use std::alloc::{AllocError, Global};
 use texts::Source;
 

@@ -9,7 +9,8 @@ ghost use Rattle.strace_logs.specs.inner.Views.{all_logged, all_refused, logged,
 use crate::logged::LogCall;
 use crate::reasons::said_of;
 use call_record::{Word, lets_through};
-use call_tables::Arch;
+use call_tables::call_name;
+use machines::Arch;
 use profile::Profile;
 use profile_json::EntryRules;
 use std::alloc::{AllocError, Global};
@@ -163,7 +164,7 @@ fn count_of(first: &RefusedCall<'_>, calls: &[RefusedCall<'_>]) -> usize
 fn name_of(arch: Arch, nr: u32) -> &'static str
     ensures { result.now ≡ spec.name_of arch nr }
 {
-    match arch.name(nr) {
+    match call_name(arch, nr) {
         Some(name) => name,
         None => "a call",
     }

@@ -14,9 +14,9 @@ use crate::logged::{LogCall, put_logs};
 use crate::logs::Log;
 use crate::refusals::{RefusedCall, put_refusals, refused_in};
 use crate::unused::put_unused;
-use call_tables::Arch;
+use machines::Arch;
 use profile::Profile;
-use profile_json::{EntryRules, ProfileError, read_bundle, rules_by_entry};
+use profile_json::{EntryRules, ProfileError, read};
 use std::alloc::{AllocError, Global};
 use std::fmt::Write;
 use wording::{Told, refused_profile};
@@ -116,7 +116,7 @@ fn played(
     }
 }
 
-// What is told of a bundle that was read twice, or why it was not.
+// What is told of a bundle, or why it was not read.
 fn replayed(
     alloc: Global,
     native: Arch,
@@ -128,9 +128,18 @@ fn replayed(
         ⊎ (spec.Replays native bundle.now (parts_of logs.now) tells_unused told)) }
     ensures fault { IfErr result (λ e. IfSome (fault_of e) (Breaks bundle.now native)) }
 {
-    let read = read_bundle(alloc, bundle, native)?;
-    let all = rules_by_entry(alloc, bundle, native)?;
-    let told = played(alloc, native, &read.profile, &all, logs, tells_unused)?;
+    let read = match read(alloc, bundle, native) {
+        Ok(read) => read,
+        Err(refusal) => return Err(refusal.error),
+    };
+    let told = played(
+        alloc,
+        native,
+        &read.profile,
+        &read.by_entry,
+        logs,
+        tells_unused,
+    )?;
     Ok(told)
 }
 

@@ -2,10 +2,10 @@
 mod arguments;
 mod call;
 mod line;
-mod machines;
+mod machine_words;
 mod numbers;
 
 pub(crate) use arguments::is_raw;
 pub(crate) use call::{Call, record_of};
-pub(crate) use line::{call_in, call_on, is_remark};
-pub(crate) use machines::machines_run;
+pub(crate) use line::{call_in, is_remark, shown_on};
+pub(crate) use machine_words::machines_run;

@@ -4,7 +4,8 @@ use crate::deeds::put_deeds;
 use crate::keeps::Keep;
 use crate::lists::Runtime;
 use crate::names::Names;
-use call_tables::Arch;
+use call_tables::call_number;
+use machines::Arch;
 use std::alloc::AllocError;
 use std::fmt::Write;
 
@@ -73,7 +74,7 @@ fn value_count(calls: &Calls, keep: usize) -> usize {
 // Whether logs show a call that lacks an argument of which the values are kept.
 fn is_loose(calls: &Calls, keep: &Keep<'_>) -> bool {
     for call in &calls.seen {
-        if call.is_whole() && call.arch.number(keep.name) == Some(call.nr) {
+        if call.is_whole() && call_number(call.arch, keep.name) == Some(call.nr) {
             return true;
         }
     }

@@ -3,12 +3,13 @@ ghost use Rattle.std.specs.Prelude.{◌≡◌, ◌-◌, ◌++◌, ◌∷◌, ℕ
 ghost use Rattle.std.specs.Prelude.{codes, drop, if◌then◌else◌, is_some, map, not, string_bytes, take, unwrap_or};
 ghost use Rattle.std.specs.List.{list_all, list_any};
 ghost use Rattle.std.specs.Option.{option_map};
-ghost use Rattle.call_tables.specs.Arch.{table_of};
+ghost use Rattle.call_tables.specs.Tables.{table_of};
 ghost use Rattle.call_tables.specs.Table.{name_in};
 ghost use Rattle.strace_logs.specs.Unused as spec;
 ghost use Rattle.strace_logs.specs.inner.Views.{all_logged, names_now, use_now, uses_now};
 
 use crate::logged::LogCall;
+use call_tables::call_name;
 use profile::Rule;
 use profile_json::EntryRules;
 use std::alloc::{AllocError, Global};
@@ -31,7 +32,7 @@ fn is_used(calls: &[LogCall<'_>], rule: &Rule) -> bool
 fn name_of(rule: &Rule) -> &'static str
     ensures { result.now ≡ unwrap_or (name_in (table_of rule.now.arch) rule.now.nr) [] }
 {
-    match rule.arch.name(rule.nr) {
+    match call_name(rule.arch, rule.nr) {
         Some(name) => name,
         None => "",
     }

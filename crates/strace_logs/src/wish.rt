@@ -6,7 +6,7 @@ ghost use Rattle.strace_logs.specs.inner.Wished.{Asks, AsksTo, IsMark};
 
 use crate::keeps::{Keep, is_kept};
 use crate::lists::{Otherwise, Runtime};
-use call_tables::Arch;
+use machines::Arch;
 use std::alloc::{AllocError, Global};
 
 /// The files of logs, the calls of which values are kept, and the runtime whose own calls are added. Also what becomes of the calls that no

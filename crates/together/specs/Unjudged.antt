@@ -1,7 +1,7 @@
 -- Why a bundle is not handed out.
 use Rattle.std.specs.Prelude.{◌≡◌, ℕ, List, Some, ⊤, slice_get, take}
 use Rattle.std.specs.List.{AllZip}
-use Rattle.call_tables.specs.declared.arch.Arch.{Arch}
+use Rattle.machines.specs.declared.arch.Arch.{Arch}
 use Rattle.profile.specs.Policy.{Policy}
 use Rattle.profile_json.specs.Breaks.{Breaks}
 use Rattle.profile_json.specs.Fault.{Fault, fault_of}

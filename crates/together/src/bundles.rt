@@ -1,7 +1,7 @@
 //! Bundles, and one that means what they mean together.
 ghost use Rattle.std.specs.Prelude.{◌≡◌, ℕ, IfOk, IfErr, IfNone, IfSome, List, Some, map, slice_get, string_bytes, take};
 ghost use Rattle.std.specs.List.{AllZip};
-ghost use Rattle.call_tables.specs.declared.arch.Arch.{Arch as TheArch};
+ghost use Rattle.machines.specs.declared.arch.Arch.{Arch as TheArch};
 ghost use Rattle.profile.specs.Policy.{Policy};
 ghost use Rattle.profile_json.specs.Breaks.{Breaks};
 ghost use Rattle.profile_json.specs.Fault.{fault_of};
@@ -14,8 +14,8 @@ ghost use Rattle.together.specs.declared.way.Way.{Way as TheWay};
 use crate::judged::{Unsettled, judge};
 use crate::unlike::Unlike;
 use crate::way::Way;
-use call_tables::Arch;
 use differ::Call;
+use machines::Arch;
 use profile::Profile;
 use profile_json::{Bundle, ProfileError, read_bundle};
 use std::alloc::{AllocError, AllocFailed, Global};
@@ -79,7 +79,7 @@ fn profile_of(alloc: Global, native: Arch, bundle: &[u8]) -> Result<Profile, Pro
     ensures read { IfOk result (IsBundle native bundle.now) }
     ensures fault { IfErr result (λ e. IfSome (fault_of e) (Breaks bundle.now native)) }
 {
-    let Bundle { profile } = read_bundle(alloc, bundle, native)?;
+    let Bundle { profile, .. } = read_bundle(alloc, bundle, native)?;
     Ok(profile)
 }
 

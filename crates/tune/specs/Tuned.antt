@@ -1,6 +1,6 @@
 -- What is made of a bundle and counts of its calls.
 use Rattle.std.specs.Prelude.{ℕ, List}
-use Rattle.call_tables.specs.declared.arch.Arch.{Arch}
+use Rattle.machines.specs.declared.arch.Arch.{Arch}
 use Rattle.maker.specs.Finding.{IsFinding}
 use Rattle.maker.specs.declared.check.Finding.TheVariants.{Yes}
 use Rattle.maker.specs.Exported.{IsUnready}

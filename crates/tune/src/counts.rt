@@ -1,6 +1,7 @@
 //! Counts of calls, read from a text.
 
-use call_tables::Arch;
+use call_tables::call_number;
+use machines::Arch;
 use std::alloc::{AllocError, Global};
 use texts::is_decimal;
 
@@ -97,7 +98,7 @@ fn take(native: Arch, line: &[u8], place: u64, counts: &mut Vec<Count>) -> Resul
     match read_line(text) {
         Said::Nothing => Ok(()),
         Said::Wrong => Err(CountsFault::BadLine(place)),
-        Said::Count(name, count) => match native.number(name) {
+        Said::Count(name, count) => match call_number(native, name) {
             Some(number) => Ok(add(counts, number, count)?),
             None => Err(CountsFault::UnknownName(place)),
         },

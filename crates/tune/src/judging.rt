@@ -1,6 +1,6 @@
 //! From a bundle and counts of calls to a filter in which these calls execute few instructions.
 ghost use Rattle.std.specs.Prelude.{ℕ, List, IfErr, IfOk, IfSome};
-ghost use Rattle.call_tables.specs.declared.arch.Arch.{Arch as TheArch};
+ghost use Rattle.machines.specs.declared.arch.Arch.{Arch as TheArch};
 ghost use Rattle.maker.specs.Exported.{IsCheckedOf};
 ghost use Rattle.maker.specs.Finding.{IsBundle};
 ghost use Rattle.tune.specs.Tuned.{IsRightFor, IsUntuned};
@@ -10,8 +10,8 @@ use crate::tuning::tuned_for;
 use crate::untuned::{Untuned, of_bundle, of_counts};
 use crate::weights::{Weight, steps_in, weights_of};
 use bpf_insn::{Insn, MAX_INSNS, Program, encode_into};
-use call_tables::Arch;
 use cert_check::Checked;
+use machines::Arch;
 use maker::{Evidence, Slot, Unready, judge_filter};
 use profile::Profile;
 use std::alloc::{AllocError, Global};

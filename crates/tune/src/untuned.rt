@@ -1,6 +1,6 @@
 //! Why there is no filter.
 ghost use Rattle.std.specs.Prelude.{◌≡◌, ◌≢◌, ℕ, List, IfOk, string_bytes};
-ghost use Rattle.call_tables.specs.declared.arch.Arch.{Arch as TheArch};
+ghost use Rattle.machines.specs.declared.arch.Arch.{Arch as TheArch};
 ghost use Rattle.maker.specs.Exported.{IsUnready, text_of};
 ghost use Rattle.maker.specs.declared.unready.Unready.{Unready as TheUnready};
 ghost use Rattle.maker.specs.declared.unready.Unready.TheVariants as reason;

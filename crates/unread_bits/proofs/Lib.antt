@@ -1,9 +1,3 @@
-pub mod ReadLaws
-pub mod StrayLaws
-pub mod SplitLaws
-pub mod PartLaws
-pub mod ValueLaws
 pub mod PairLaws
-pub mod WaysLaws
+pub mod PassingLaws
 pub mod CallLaws
-pub mod SettledLaws

@@ -1,4 +1,3 @@
-pub mod Parts
 pub mod Crowded
 pub mod Past
 pub mod inner

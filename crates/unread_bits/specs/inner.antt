@@ -1,2 +1,3 @@
-pub mod Open
+pub mod Read
+pub mod Pair
 pub mod Extended

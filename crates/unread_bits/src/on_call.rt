@@ -1,70 +1,51 @@
 //! Whether a call gets past a profile.
-ghost use Rattle.std.specs.Prelude.{◌≡◌, true, IfOk, IfErr, IfSome, IfNone};
-ghost use Rattle.differ.specs.OnCall.{rules_for};
-ghost use Rattle.differ.specs.declared.listed.Unlisted.TheVariants.{OutOfMemory};
-ghost use Rattle.unread_bits.specs.Crowded.{AreCrowded, IsUnsettled};
+ghost use Rattle.std.specs.Prelude.{◌≡◌, ◌∷◌, [], IfOk, IfErr, IfSome, IfNone};
+ghost use Rattle.widths.specs.Reads as reads;
+ghost use Rattle.unread_bits.specs.Crowded.{IsUnsettled};
 ghost use Rattle.unread_bits.specs.Past.{IsPastOf, NoneGetsPast};
 
-use crate::opened::{Open, conditions_of};
-use crate::past::Past;
-use crate::read::bits_at;
-use crate::values::{MOST_VALUES, values};
-use crate::walk::{Budget, walk};
-use differ::{Call, Unlisted, rules_for};
-use profile::{Profile, Rule};
-use std::alloc::{AllocError, Global};
+use crate::past::{Past, past_by};
+use crate::sides::side_of;
+use call_record::{Record, words_are_a_record};
+use differ::{Direction, Unlisted, bits_of, memory_for, unlike_at};
+use profile::Profile;
+use std::alloc::Global;
+use widths::read_bits;
 
-// Whether the ways in which the conditions on each argument can answer have few combinations.
-fn are_few(alloc: Global, profile: &Profile, rules: &[Rule], call: &Call) -> Result<(), Unlisted>
-    requires { rules.now ≡ rules_for call.now.token call.now.nr profile.now.rules }
-    ensures { IfErr result (IsUnsettled profile.now call.now.token call.now.nr) }
+// How many of the lowest bits of each argument are read.
+fn reads_of(token: u32, nr: u32) -> [u32; 6]
+    ensures { result ≡ reads.read_bits token nr 0 ∷ reads.read_bits token nr 1 ∷ reads.read_bits token nr 2
+        ∷ reads.read_bits token nr 3 ∷ reads.read_bits token nr 4 ∷ reads.read_bits token nr 5 ∷ [] }
 {
-    let mut ways: usize = 1;
-    for index in 0..6 {
-        let bits = bits_at(call, index);
-        let conds = conditions_of(alloc, rules, index)?;
-        let list = values(alloc, &conds, bits.low, bits.high)?;
-        let count = list.len();
-        if count > MOST_VALUES / ways {
-            return Err(Unlisted::TooMany);
-        }
-        ways *= count;
-    }
-    Ok(())
+    [
+        read_bits(token, nr, 0),
+        read_bits(token, nr, 1),
+        read_bits(token, nr, 2),
+        read_bits(token, nr, 3),
+        read_bits(token, nr, 4),
+        read_bits(token, nr, 5),
+    ]
 }
 
-// The budget of a walk: one without a limit where there are few.
-fn budget_for(
-    alloc: Global,
-    profile: &Profile,
-    rules: &[Rule],
-    call: &Call,
-) -> Result<Budget, Unlisted>
-    requires { rules.now ≡ rules_for call.now.token call.now.nr profile.now.rules }
-    ensures limited { IfOk result (λ budget. budget.limited ≡ true → AreCrowded profile.now call.now.token call.now.nr) }
-    ensures err { IfErr result (λ e. e ≡ OutOfMemory) }
+// All bits of each argument.
+fn all_bits() -> [u32; 6]
+    ensures { result ≡ 64 ∷ 64 ∷ 64 ∷ 64 ∷ 64 ∷ 64 ∷ [] }
 {
-    match are_few(alloc, profile, rules, call) {
-        Ok(()) => Ok(Budget {
-            limited: false,
-            left: MOST_VALUES,
-        }),
-        Err(Unlisted::TooMany) => Ok(Budget {
-            limited: true,
-            left: MOST_VALUES,
-        }),
-        Err(Unlisted::OutOfMemory) => Err(Unlisted::OutOfMemory),
-    }
+    [64, 64, 64, 64, 64, 64]
 }
 
-// All rules for a call are open for it.
-fn open_for(alloc: Global, profile: &Profile, call: &Call) -> Result<Open, AllocError>
-    ensures plain { IfOk result (λ held. held.plain.items ≡ rules_for call.now.token call.now.nr profile.now.rules) }
-    ensures cut { IfOk result (λ held. held.cut.items ≡ rules_for call.now.token call.now.nr profile.now.rules) }
+// The record of a call with these arguments.
+fn record_of(token: u32, nr: u32, args: [u64; 6]) -> Record
+    ensures arch { result.arch ≡ token }
+    ensures nr { result.nr ≡ nr }
+    ensures args { result.args ≡ args }
 {
-    let plain = rules_for(alloc, profile.rules(), call.token, call.nr)?;
-    let cut = rules_for(alloc, profile.rules(), call.token, call.nr)?;
-    Ok(Open { plain, cut })
+    Record {
+        nr,
+        arch: token,
+        ip: 0,
+        args,
+    }
 }
 
 /// A call with a token and a number that gets past a profile by bits that are not read; `None` where no such call does.
@@ -78,18 +59,28 @@ pub fn past_on(
     ensures none { IfOk result (λ found. IfNone found (NoneGetsPast profile.now token nr)) }
     ensures unsettled { IfErr result (IsUnsettled profile.now token nr) }
 {
-    let call = Call { token, nr };
-    let rules = rules_for(alloc, profile.rules(), token, nr)?;
-    let held = open_for(alloc, profile, &call)?;
-    let mut budget = budget_for(alloc, profile, &rules, &call)?;
-    walk(
+    profile.rules();
+    let whole = all_bits();
+    let read = reads_of(token, nr);
+    let one = side_of(alloc, profile, token, nr, &whole)?;
+    let other = side_of(alloc, profile, token, nr, &read)?;
+    let mut memory = memory_for(alloc, profile, profile, token, nr)?;
+    let bits = bits_of(token);
+    match unlike_at(
         alloc,
-        profile,
-        &rules,
-        &held,
-        &call,
-        &[0; 6],
+        Direction::Less,
+        one,
+        other,
         0,
-        &mut budget,
-    )
+        bits,
+        bits,
+        &mut memory,
+    )? {
+        None => Ok(None),
+        Some(args) => {
+            let call = record_of(token, nr, args);
+            words_are_a_record(&call);
+            Ok(past_by(profile, &call))
+        }
+    }
 }

@@ -3,7 +3,7 @@ ghost use Rattle.std.specs.Prelude.{◌≡◌, ℕ, IfSome, IfNone};
 ghost use Rattle.call_record.specs.Record.{words};
 ghost use Rattle.profile.specs.Policy.{Says};
 ghost use Rattle.unread_bits.specs.Past as spec;
-ghost use Rattle.unread_bits.specs.inner.Open.{KeepsOne};
+ghost use Rattle.unread_bits.specs.inner.Pair.{KeepsOne};
 
 use call_record::{Record, Word, lets_through, words_are_a_record};
 use profile::{Profile, each_record_is_said_one_verdict};

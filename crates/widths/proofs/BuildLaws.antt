@@ -8,8 +8,8 @@ use Rattle.std.proofs.lemmas.Option.{slice_get_within, get_or_from_slice_get}
 use Rattle.call_record.specs.Words.{IsRecord, word, argument, words_from}
 use Rattle.call_record.proofs.RecordLemmas.{argument-words_from, words_from-is_record}
 use Rattle.widths.specs.Reads.{read_bits}
-use Rattle.call_tables.specs.declared.arch.Arch.{Arch}
-use Rattle.call_tables.specs.Arch.{family_of, AreOfFamily}
+use Rattle.machines.specs.declared.arch.Arch.{Arch}
+use Rattle.machines.specs.Arch.{family_of, AreOfFamily}
 use Rattle.profile.specs.declared.rules.Rule.{Rule}
 use Rattle.profile.specs.Rule.{Matches, Clash}
 use Rattle.profile.specs.Policy.{Policy, IsProfile, InOrder}

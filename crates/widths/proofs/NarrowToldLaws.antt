@@ -1,7 +1,7 @@
 -- What is not done tells nothing of what is written.
 use Rattle.std.proofs.Common.{◌≡◌, ℕ, List, true, false, sym, ◌∙◌}
 use Rattle.std.specs.Prelude.{Result, Ok, Err, IfOk}
-use Rattle.call_tables.specs.declared.arch.Arch.{Arch}
+use Rattle.machines.specs.declared.arch.Arch.{Arch}
 use Rattle.wording.specs.declared.told.Told.{Told}
 use Rattle.widths.specs.declared.told.Narrowing.{Narrowing}
 use Rattle.widths.specs.Narrow.{IsWritten, IsTold, IsNarrow}

@@ -5,9 +5,9 @@ use Rattle.std.specs.Bool.{Decides}
 use Rattle.std.specs.List.{Any, HoldsAt, list_any}
 use Rattle.std.proofs.lemmas.Bool.Decides.{Decides-by_or, Decides-like, Decides-and, Decides-eqb, nat_tests}
 use Rattle.std.proofs.lemmas.List.Elements.{at_read}
-use Rattle.call_tables.specs.declared.arch.Arch.{Arch}
-use Rattle.call_tables.specs.Arch.{token_of}
-use Rattle.call_tables.specs.Numbers.{HasCall, IsWithin, has_call, is_within, own_numbers}
+use Rattle.machines.specs.declared.arch.Arch.{Arch}
+use Rattle.machines.specs.Arch.{token_of}
+use Rattle.machines.specs.Numbers.{HasCall, IsWithin, has_call, is_within, own_numbers}
 
 -- what holds at a place holds of some element
 any_at : {X : Type 0} (P : X → Type 0) (xs : List X) (k : ℕ) → k < length xs → HoldsAt P xs k → Any P xs

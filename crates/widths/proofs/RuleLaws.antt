@@ -10,8 +10,8 @@ use Rattle.std.proofs.lemmas.List.{length-map}
 use Rattle.std.proofs.lemmas.List.Elements.{All-append, All-contains, All-nil, All-cons}
 use Rattle.std.proofs.Math.Nat.{mod-eq_of_lt}
 use Rattle.call_record.specs.Words.{IsRecord, word, argument}
-use Rattle.call_tables.specs.Arch.{token_of}
-use Rattle.call_tables.specs.Width.{is_narrow}
+use Rattle.machines.specs.Arch.{token_of}
+use Rattle.machines.specs.Width.{is_narrow}
 use Rattle.widths.specs.Reads.{read_bits, is_all_read}
 use Rattle.profile.specs.declared.conditions.Cond.{Cond}
 use Rattle.profile.specs.declared.conditions.Op.{Op}

@@ -7,7 +7,7 @@ use Rattle.std.proofs.lemmas.Nat.{and_mask, and_assoc, and_comm, mod_below, pow_
 use Rattle.std.proofs.Math.Nat.{mod-eq_of_lt}
 use Rattle.std.proofs.Math.Pow.{mod-mod-pow, pow_mono}
 use Rattle.call_record.specs.Words.{IsRecord, word, argument}
-use Rattle.call_tables.specs.Width.{compared, is_narrow}
+use Rattle.machines.specs.Width.{compared, is_narrow}
 use Rattle.widths.specs.declared.arguments.reading.Reading.{Reading}
 use Rattle.widths.specs.declared.arguments.reading.Reading.TheVariants.{NotTaken, Bits16, Bits32, Bits64, Pointer}
 use Rattle.widths.specs.Reading.{bits_of}

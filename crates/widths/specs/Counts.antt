@@ -1,7 +1,7 @@
 -- How many rules narrowing makes at most, and when they are too many.
 use Rattle.std.specs.Prelude.{ℕ, ◌*◌, ◌<◌, max, nat_le, List, [], ◌∷◌, if◌then◌else◌, slice_index, sum_by}
 use Rattle.widths.specs.Reads.{cut_bits}
-use Rattle.call_tables.specs.Arch.{token_of}
+use Rattle.machines.specs.Arch.{token_of}
 use Rattle.profile.specs.declared.conditions.Cond.{Cond}
 use Rattle.profile.specs.declared.conditions.Op.{Op}
 use Rattle.profile.specs.declared.conditions.Op.TheVariants.{Eq, MaskedEq}

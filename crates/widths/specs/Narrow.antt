@@ -1,7 +1,7 @@
 -- What narrowing a bundle answers.
 use Rattle.std.specs.Prelude.{◌≡◌, ℕ, List, true}
 use Rattle.serde_json.specs.Data.{Data}
-use Rattle.call_tables.specs.declared.arch.Arch.{Arch}
+use Rattle.machines.specs.declared.arch.Arch.{Arch}
 use Rattle.wording.specs.declared.told.Told.{Told}
 use Rattle.widths.specs.Alike.{IsNarrowed}
 use Rattle.widths.specs.Lowered.{AreLowered, ValuesFit, with_rules}

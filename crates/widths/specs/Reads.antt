@@ -2,12 +2,13 @@
 use Rattle.std.specs.Prelude.{ℕ, min, nat_le, Bool, false}
 use Rattle.std.specs.Prelude.{List, Option, Some, None, if◌then◌else◌, option_and_then, option_map, unwrap_or, slice_get}
 use Rattle.std.specs.List.{find}
-use Rattle.call_tables.specs.declared.arch.Arch.{Arch}
-use Rattle.call_tables.specs.declared.arch.Family.TheVariants.{Whole}
-use Rattle.call_tables.specs.Arch.{table_of, machines_of}
-use Rattle.call_tables.specs.Numbers.{has_call}
+use Rattle.machines.specs.declared.arch.Arch.{Arch}
+use Rattle.machines.specs.declared.arch.Family.TheVariants.{Whole}
+use Rattle.machines.specs.Arch.{machines_of}
+use Rattle.call_tables.specs.Tables.{table_of}
+use Rattle.machines.specs.Numbers.{has_call}
 use Rattle.call_tables.specs.Table.{name_in}
-use Rattle.call_tables.specs.Width.{is_narrow}
+use Rattle.machines.specs.Width.{is_narrow}
 use Rattle.widths.specs.declared.arguments.reading.Reading.{Reading}
 use Rattle.widths.specs.Reading.{bits_of}
 use Rattle.widths.specs.Rows.{readings_among}

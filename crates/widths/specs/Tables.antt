@@ -2,10 +2,10 @@
 -- those with entries of its own. AArch64, riscv64 and ppc64le take the arguments of clone in another order, and so does s390x.
 -- Of the number of ipc, x86 and ppc64le read 16 bits (ksys_ipc of ipc/syscall.c).
 use Rattle.std.specs.Prelude.{List, [], ◌∷◌, map}
-use Rattle.call_tables.specs.declared.arch.Arch.{Arch}
-use Rattle.call_tables.specs.declared.arch.Arch.TheVariants.{X86_64, Aarch64, LinuxX86_64, LinuxX86, LinuxX32}
-use Rattle.call_tables.specs.declared.arch.Arch.TheVariants.{LinuxAarch64, LinuxArm, LinuxRiscv64, LinuxPpc64le, LinuxLoongarch64}
-use Rattle.call_tables.specs.declared.arch.Arch.TheVariants.{LinuxS390x, LinuxS390}
+use Rattle.machines.specs.declared.arch.Arch.{Arch}
+use Rattle.machines.specs.declared.arch.Arch.TheVariants.{X86_64, Aarch64, LinuxX86_64, LinuxX86, LinuxX32}
+use Rattle.machines.specs.declared.arch.Arch.TheVariants.{LinuxAarch64, LinuxArm, LinuxRiscv64, LinuxPpc64le, LinuxLoongarch64}
+use Rattle.machines.specs.declared.arch.Arch.TheVariants.{LinuxS390x, LinuxS390}
 use Rattle.widths.specs.declared.linux_arguments.TheConstants.{FIRST_CALLS, SECOND_CALLS, THIRD_CALLS, FOURTH_CALLS}
 use Rattle.widths.specs.declared.linux_arguments.TheConstants.{X32_CALLS, X86_CALLS, AARCH64_CALLS, PPC64LE_CALLS, S390X_CALLS}
 use Rattle.widths.specs.Rows.{Rows}

@@ -1,18 +1,7 @@
 //! Conditions as a bundle writes them.
 use crate::text::Text;
 use profile::{Cond, Op};
-
-fn name_of(op: Op) -> &'static str {
-    match op {
-        Op::Ne => "SCMP_CMP_NE",
-        Op::Lt => "SCMP_CMP_LT",
-        Op::Le => "SCMP_CMP_LE",
-        Op::Eq => "SCMP_CMP_EQ",
-        Op::Ge => "SCMP_CMP_GE",
-        Op::Gt => "SCMP_CMP_GT",
-        Op::MaskedEq => "SCMP_CMP_MASKED_EQ",
-    }
-}
+use profile_json::operator_name;
 
 // Adds a condition behind those that the list has.
 fn put_condition(text: &mut Text, cond: &Cond) {
@@ -27,7 +16,7 @@ fn put_condition(text: &mut Text, cond: &Cond) {
     if op == Op::MaskedEq {
         text.put(format_args!(", \"valueTwo\": {datum}"));
     }
-    let name = name_of(op);
+    let name = operator_name(op);
     text.put(format_args!(", \"op\": \"{name}\"}}"));
 }
 

@@ -3,7 +3,7 @@ use crate::conditions::put_conditions;
 use crate::narrowing::{CutError, Plan, conditions};
 use crate::plans::{agree, cuts, lowered, plan_of};
 use crate::text::Text;
-use call_tables::Arch;
+use machines::Arch;
 use profile::{Cond, Rule};
 use profile_json::EntryRules;
 use serde_json::Value;

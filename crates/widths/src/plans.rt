@@ -1,13 +1,14 @@
 //! To how many bits the arguments of a call are cut, by its name. An entry of a bundle is for all machines that have the call.
 use crate::arguments::cut_bits;
 use crate::narrowing::{Plan, WHOLE, WIDEST, cut_to, fits_in, sees_low, suit_call};
-use call_tables::Arch;
+use call_tables::call_number;
+use machines::Arch;
 use profile::Cond;
 use std::alloc::{AllocError, Global};
 
 // To how many bits a machine's call cuts the argument of a condition.
 fn bits_on(arch: Arch, name: &str, cond: &Cond) -> u32 {
-    let Some(nr) = arch.number(name) else {
+    let Some(nr) = call_number(arch, name) else {
         return WHOLE;
     };
     let bits = cut_bits(arch.token(), nr, cond.index as usize);
@@ -37,7 +38,7 @@ pub(crate) fn plan_of(machines: &[Arch], name: &str, conds: &[Cond]) -> Plan {
 
 // Whether a machine's call, if it has it, may be cut so.
 fn suits_on(arch: Arch, name: &str, conds: &[Cond], plan: &Plan) -> bool {
-    match arch.number(name) {
+    match call_number(arch, name) {
         Some(nr) => suit_call(arch.token(), nr, conds, plan),
         None => true,
     }

@@ -11,9 +11,10 @@ use crate::narrowing::{
 };
 use crate::plans::plan_of;
 use crate::written::{Draft, written};
-use call_tables::Arch;
+use call_tables::call_name;
+use machines::Arch;
 use profile::{Profile, Rule};
-use profile_json::{ProfileError, read_bundle};
+use profile_json::{Bundle, Document, ProfileError, read_bundle};
 use std::alloc::{AllocError, Global};
 use wording::{Told, refused_profile};
 
@@ -36,7 +37,7 @@ fn nothing(alloc: Global) -> Told
 
 // To how many bits a rule's arguments are cut.
 fn plan_of_rule(machines: &[Arch], rule: &Rule) -> Plan {
-    match rule.arch.name(rule.nr) {
+    match call_name(rule.arch, rule.nr) {
         Some(name) => plan_of(machines, name, rule.conds.as_slice()),
         None => [WHOLE; 6],
     }
@@ -170,22 +171,17 @@ fn told_for(
     checked(alloc, native, profile, text)
 }
 
-// The narrowed bundle of one that means a profile.
-fn narrowed_of(
-    alloc: Global,
-    native: Arch,
-    bundle: &[u8],
-    profile: &Profile,
-) -> Result<Narrowing, AllocError>
-    requires { spec.IsBundle native bundle.now profile.now }
-    ensures { IfOk result (spec.IsNarrow native bundle.now) }
+// The narrowed bundle of one that was read.
+fn narrowed_of(alloc: Global, document: &Document, bundle: &Bundle) -> Result<Narrowing, AllocError>
+    requires { spec.IsBundle document.now.native document.now.bytes bundle.now.profile }
+    ensures { IfOk result (spec.IsNarrow document.now.native document.now.bytes) }
 {
     let Draft {
         text,
         changes,
         is_refused,
-    } = written(alloc, native, bundle, profile.machines())?;
-    let told = told_for(alloc, native, profile, text, is_refused)?;
+    } = written(alloc, document, bundle)?;
+    let told = told_for(alloc, document.native(), &bundle.profile, text, is_refused)?;
     Ok(Narrowing { told, changes })
 }
 
@@ -199,12 +195,12 @@ fn refused(alloc: Global, error: ProfileError) -> Result<Narrowing, AllocError>
     })
 }
 
-/// Makes a bundle, which is read for a native machine, of another: it means the narrowed profile.
-pub fn narrow(alloc: Global, native: Arch, bundle: &[u8]) -> Result<Narrowing, AllocError>
-    ensures { IfOk result (spec.IsNarrow native bundle.now) }
+/// Makes a bundle of another: it means the narrowed profile.
+pub fn narrow(alloc: Global, document: &Document) -> Result<Narrowing, AllocError>
+    ensures { IfOk result (spec.IsNarrow document.now.native document.now.bytes) }
 {
-    match read_bundle(alloc, bundle, native) {
-        Ok(read) => narrowed_of(alloc, native, bundle, &read.profile),
+    match document.bundle() {
+        Ok(bundle) => narrowed_of(alloc, document, bundle),
         Err(error) => refused(alloc, error),
     }
 }

@@ -1,8 +1,7 @@
 //! The bundle of narrowed entries.
 use crate::entries::{Entries, list_in, put_member};
 use crate::text::Text;
-use call_tables::Arch;
-use profile_json::rules_by_entry;
+use profile_json::{Bundle, Document};
 use serde_json::Value;
 use std::alloc::{AllocError, Global};
 
@@ -38,40 +37,39 @@ fn section_of(config: &Value) -> Option<&Value> {
 // Writes the bundle of a section.
 fn put_section(
     entries: &mut Entries<'_>,
-    native: Arch,
-    bundle: &[u8],
+    bundle: &Bundle,
     config: &Value,
     section: &Value,
 ) -> Result<(), AllocError> {
     put_head(&mut entries.text, config, section);
-    let Ok(all) = rules_by_entry(entries.alloc, bundle, native) else {
-        return Err(AllocError);
-    };
-    entries.put_all(list_in(section, "syscalls"), &all)?;
+    entries.put_all(list_in(section, "syscalls"), &bundle.by_entry)?;
     entries.text.end("\n      ]\n    }\n  }\n}\n");
     Ok(())
 }
 
 // Writes the bundle of one that was read.
-fn put_bundle(entries: &mut Entries<'_>, native: Arch, bundle: &[u8]) -> Result<(), AllocError> {
-    let Ok(config) = Value::from_slice(entries.alloc, bundle) else {
-        return Err(AllocError);
+fn put_bundle(
+    entries: &mut Entries<'_>,
+    document: &Document,
+    bundle: &Bundle,
+) -> Result<(), AllocError> {
+    let Ok(config) = document.tree() else {
+        return Ok(());
     };
-    match section_of(&config) {
-        Some(section) => put_section(entries, native, bundle, &config, section),
+    match section_of(config) {
+        Some(section) => put_section(entries, bundle, config, section),
         None => Ok(()),
     }
 }
 
-/// The bundle of narrowed entries of one that was read, for these machines.
+/// The bundle of narrowed entries of one that was read.
 pub(crate) fn written(
     alloc: Global,
-    native: Arch,
-    bundle: &[u8],
-    machines: &[Arch],
+    document: &Document,
+    bundle: &Bundle,
 ) -> Result<Draft, AllocError> {
-    let mut entries = Entries::new(alloc, machines);
-    put_bundle(&mut entries, native, bundle)?;
+    let mut entries = Entries::new(alloc, bundle.profile.machines());
+    put_bundle(&mut entries, document, bundle)?;
     let Entries {
         text,
         changes,

@@ -1,6 +1,6 @@
 -- Texts to which parts are added.
 use Rattle.std.proofs.Common.{◌≡◌, ℕ, List, [], ◌++◌, ap, ◌∙◌}
-use Rattle.call_tables.specs.declared.arch.Family.{Family}
+use Rattle.machines.specs.declared.arch.Family.{Family}
 use Rattle.wording.specs.declared.reason.Reason.{Reason}
 
 -- what is added to nothing is the whole

@@ -3,10 +3,11 @@ use Rattle.std.specs.Prelude.{ℕ, ◌==◌, Bool, true, false, if◌then◌else
 use Rattle.std.specs.Fmt.{decimal, digits}
 use Rattle.std.specs.List.{flat_map}
 use Rattle.texts.specs.Lines.{line_feed}
-use Rattle.call_tables.specs.declared.arch.Arch.{Arch}
-use Rattle.call_tables.specs.declared.arch.Family.{Family}
-use Rattle.call_tables.specs.Arch.{machines_of, table_of, token_of, machine_name}
-use Rattle.call_tables.specs.Numbers.{has_call}
+use Rattle.machines.specs.declared.arch.Arch.{Arch}
+use Rattle.machines.specs.declared.arch.Family.{Family}
+use Rattle.machines.specs.Arch.{machines_of, token_of, machine_name}
+use Rattle.call_tables.specs.Tables.{table_of}
+use Rattle.machines.specs.Numbers.{has_call}
 use Rattle.call_tables.specs.Table.{name_in}
 use Rattle.call_record.specs.declared.layout.Record.{Record}
 use Rattle.call_record.specs.Verdict.{action, datum, kill_process, kill_thread, trap, errno, user_notif, trace, log, allow}

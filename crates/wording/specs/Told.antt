@@ -1,7 +1,7 @@
 -- What a command tells, and whether it did what it was asked for.
 use Rattle.std.specs.Prelude.{ℕ, ◌≡◌, ◌≢◌, true, false, List, [], ◌∷◌, ◌++◌, IfSome, codes}
 use Rattle.texts.specs.Lines.{line_feed}
-use Rattle.call_tables.specs.declared.arch.Arch.{Arch}
+use Rattle.machines.specs.declared.arch.Arch.{Arch}
 use Rattle.profile_json.specs.Breaks.{Breaks}
 use Rattle.profile_json.specs.Fault.{fault_of, text_of}
 use Rattle.profile_json.specs.declared.fault.ProfileError.{ProfileError}

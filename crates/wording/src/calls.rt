@@ -1,10 +1,11 @@
 //! A call told as text.
 ghost use Rattle.std.specs.Prelude.{◌≡◌, ◌++◌, IfOk, string_bytes};
-ghost use Rattle.call_tables.specs.Numbers.{has_call};
+ghost use Rattle.machines.specs.Numbers.{has_call};
 ghost use Rattle.wording.specs.Phrases as spec;
 
 use call_record::Record;
-use call_tables::{Arch, Family};
+use call_tables::call_name;
+use machines::{Arch, Family};
 use std::alloc::AllocError;
 use std::fmt::Write;
 
@@ -77,7 +78,7 @@ fn put_foreign(text: &mut String, token: u32, nr: u32) -> Result<(), AllocError>
 fn put_call(text: &mut String, arch: Arch, nr: u32) -> Result<(), AllocError>
     ensures { IfOk result (λ _. string_bytes text.new ≡ string_bytes text.old ++ spec.call_on (Some arch) 0 nr) }
 {
-    match arch.name(nr) {
+    match call_name(arch, nr) {
         Some(name) => put_named(text, name, arch, nr),
         None => put_unnamed(text, arch, nr),
     }

@@ -1,10 +1,10 @@
 -- The rows of Linux stand in order, and no machine has a number twice: computed over them.
 use Rattle.std.proofs.Common.{◌≡◌, true, refl}
-use Rattle.call_tables.specs.Machines.{first_rows, second_rows, third_rows, fourth_rows, linux_rows}
-use Rattle.call_tables.specs.Machines.{linux_x86_64_table, linux_x86_table, linux_x32_table, linux_aarch64_table}
-use Rattle.call_tables.specs.Machines.{linux_arm_table, linux_riscv64_table, linux_ppc64le_table}
-use Rattle.call_tables.specs.Machines.{linux_loongarch64_table, linux_s390x_table}
-use Rattle.call_tables.specs.Machines.{linux_s390_table}
+use Rattle.call_tables.specs.Tables.{first_rows, second_rows, third_rows, fourth_rows, linux_rows}
+use Rattle.call_tables.specs.Tables.{linux_x86_64_table, linux_x86_table, linux_x32_table, linux_aarch64_table}
+use Rattle.call_tables.specs.Tables.{linux_arm_table, linux_riscv64_table, linux_ppc64le_table}
+use Rattle.call_tables.specs.Tables.{linux_loongarch64_table, linux_s390x_table}
+use Rattle.call_tables.specs.Tables.{linux_s390_table}
 use Rattle.call_tables.specs.Table.{is_one_to_one}
 use Rattle.call_tables.specs.inner.Order.{Ascends, are_sorted}
 use Rattle.call_tables.specs.inner.OrderLaws.{ascends, one_to_one}

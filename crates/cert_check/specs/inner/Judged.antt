@@ -1,7 +1,7 @@
 -- Questions that may be open, as the code answers them.
 use Rattle.std.specs.Prelude.{◌≡◌, ◌≢◌, ◌↔◌, ℕ, ◌+◌, ◌*◌, ◌^◌, ◌<◌, ◌⊎◌, ⊤, true, false, Bool, IsTrue}
 use Rattle.std.specs.Prelude.{List, [], Option, Some, IfSome, Contains, slice_get, slice_index_or}
-use Rattle.call_tables.specs.declared.arch.Arch.{Arch}
+use Rattle.machines.specs.declared.arch.Arch.{Arch}
 use Rattle.profile.specs.declared.conditions.Op.{Op}
 use Rattle.profile.specs.declared.conditions.Op.TheVariants.{Ne, Eq, MaskedEq}
 use Rattle.profile.specs.declared.conditions.Cond.{Cond}

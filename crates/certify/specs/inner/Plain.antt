@@ -1,9 +1,9 @@
 -- The paths of a filter of calls, for a profile without conditions: what is known at a place, and how many nodes it takes.
 use Rattle.std.specs.Prelude.{◌≡◌, ℕ, ◌+◌, ◌-◌, ◌^◌, ◌<◌, ◌≤◌, ◌⊎◌, ⊤, List, [], ◌∷◌, ◌++◌, All, Any, Option, Some, None, Contains}
 use Rattle.std.specs.Prelude.{length, slice_get}
-use Rattle.call_tables.specs.declared.arch.Arch.{Arch}
-use Rattle.call_tables.specs.Arch.{token_of}
-use Rattle.call_tables.specs.Numbers.{IsWithin, foreign_numbers}
+use Rattle.machines.specs.declared.arch.Arch.{Arch}
+use Rattle.machines.specs.Arch.{token_of}
+use Rattle.machines.specs.Numbers.{IsWithin, foreign_numbers}
 use Rattle.bpf_insn.specs.declared.code.Operation.TheVariants.{ReturnK}
 use Rattle.bpf_insn.specs.declared.instruction.Insn.{Insn}
 use Rattle.bpf_insn.specs.Code.{operation_of}

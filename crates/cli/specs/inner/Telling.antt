@@ -3,7 +3,7 @@ use Rattle.std.specs.Prelude.{ℕ, map, ◌≡◌, ◌⊎◌, Some, None, List, 
 use Rattle.texts.specs.Failures.{Failures}
 use Rattle.wording.specs.declared.told.Told.{Told}
 use Rattle.cli.specs.declared.stops.Stop.{Stop}
-use Rattle.call_tables.specs.declared.arch.Arch.{Arch}
+use Rattle.machines.specs.declared.arch.Arch.{Arch}
 use Rattle.byte_order.specs.Turned.{read_as}
 use Rattle.cli.specs.declared.adapting.Both.{Both}
 use Rattle.cli.specs.declared.stops.Stop.TheVariants.{CannotRead, OutOfMemory, Usage}

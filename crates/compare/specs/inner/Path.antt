@@ -5,8 +5,8 @@ use Rattle.bpf_insn.specs.declared.code.Operation.TheVariants.{LoadWord}
 use Rattle.bpf_insn.specs.Code.{operation_of}
 use Rattle.bpf_insn.specs.Machine.{Registers, Step, Ends, Goes, start, verdict_of}
 use Rattle.call_record.specs.Words.{IsRecord, word}
-use Rattle.call_tables.specs.declared.numbers.Numbers.{Numbers}
-use Rattle.call_tables.specs.Numbers.{IsWithin}
+use Rattle.machines.specs.declared.numbers.Numbers.{Numbers}
+use Rattle.machines.specs.Numbers.{IsWithin}
 use Rattle.compare.specs.declared.behind_runc.stub.region.Region.{Region}
 use Rattle.compare.specs.declared.behind_runc.stub.step.Held.{Held}
 use Rattle.compare.specs.declared.behind_runc.stub.step.Held.TheVariants.{Nothing, Number, Token}

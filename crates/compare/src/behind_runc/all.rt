@@ -1,7 +1,7 @@
 //! All records that are found to convict a filter behind a stub, without those that the stub answers.
 ghost use Rattle.std.specs.Prelude.{◌≡◌, [], IfOk, ℕ, List, Ok};
 ghost use Rattle.std.specs.List.{All};
-ghost use Rattle.call_tables.specs.declared.arch.Arch.{Arch as TheArch};
+ghost use Rattle.machines.specs.declared.arch.Arch.{Arch as TheArch};
 ghost use Rattle.maker.specs.declared.evidence.evidence.Conviction.{Conviction as TheConviction};
 ghost use Rattle.maker.specs.declared.evidence.evidence.Evidence.TheVariants.{Convicting};
 ghost use Rattle.compare.specs.Behind.{AreFoundBehind, IsJudgedBehind, IsNoConviction, IsNotAnswered};
@@ -12,8 +12,8 @@ use crate::behind_runc::judged::Judged;
 use crate::behind_runc::stub::{Calls, is_answered};
 use crate::convictions::{convictions_of, put_first};
 use call_record::Record;
-use call_tables::Arch;
 use maker::{Conviction, Evidence};
+use profile_json::Document;
 use std::alloc::{AllocError, Global};
 
 // Adds a record, unless the stub answers it, or it is this one.
@@ -58,17 +58,16 @@ fn not_answered(
 // The record that was found, and further ones of the same filter.
 fn of_found(
     alloc: Global,
-    native: Arch,
-    bundle: &[u8],
+    document: &Document,
     filter: &[u8],
     behind: &Behind<'_>,
     whole: bool,
     found: &Conviction,
 ) -> Result<Vec<Conviction>, AllocError>
-    requires { Convicts native bundle.now filter.now found.now }
-    ensures { IfOk result (λ all. AreFoundBehind native bundle.now filter.now behind.now.answered.items whole found.now all.items) }
+    requires { Convicts document.now.native document.now.bytes filter.now found.now }
+    ensures { IfOk result (λ all. AreFoundBehind document.now.native document.now.bytes filter.now behind.now.answered.items whole found.now all.items) }
 {
-    let all = convictions_of(alloc, native, bundle, filter, found)?;
+    let all = convictions_of(alloc, document, filter, found)?;
     if whole {
         return Ok(all);
     }
@@ -78,24 +77,23 @@ fn of_found(
 }
 
 /// If a record was judged to convict a filter behind a stub: this one. Then one of each further call on which filter and bundle are found
-/// to differ; the bundle is read for a native machine. If the rest was asked about, the stub answers none of the further ones. Else there is
+/// to differ. If the rest was asked about, the stub answers none of the further ones. Else there is
 /// none.
 pub fn convictions_behind(
     alloc: Global,
-    native: Arch,
-    bundle: &[u8],
+    document: &Document,
     filter: &[u8],
     behind: &Behind<'_>,
     judged: &Judged,
 ) -> Result<Vec<Conviction>, AllocError>
-    requires { IsJudgedBehind native bundle.now filter.now behind.now.rest.now behind.now.answered.items judged.now.whole judged.now.evidence }
+    requires { IsJudgedBehind document.now.native document.now.bytes filter.now behind.now.rest.now behind.now.answered.items judged.now.whole judged.now.evidence }
     ensures none { IsNoConviction judged.now.evidence → IfOk result (λ all. all.items ≡ []) }
     ensures found { (found : TheConviction) → judged.now.evidence ≡ Ok (Convicting found)
-        → IfOk result (λ all. AreFoundBehind native bundle.now filter.now behind.now.answered.items judged.now.whole found all.items) }
+        → IfOk result (λ all. AreFoundBehind document.now.native document.now.bytes filter.now behind.now.answered.items judged.now.whole found all.items) }
 {
     match &judged.evidence {
         Ok(Evidence::Convicting(found)) => {
-            of_found(alloc, native, bundle, filter, behind, judged.whole, found)
+            of_found(alloc, document, filter, behind, judged.whole, found)
         }
         _ => Ok(Vec::new(alloc)),
     }

@@ -1,7 +1,7 @@
 //! What is judged of a filter behind a stub.
 ghost use Rattle.std.specs.Prelude.{◌≡◌, IfSome, ℕ, List, Ok};
 ghost use Rattle.call_record.specs.Record.{words};
-ghost use Rattle.call_tables.specs.declared.arch.Arch.{Arch as TheArch};
+ghost use Rattle.machines.specs.declared.arch.Arch.{Arch as TheArch};
 ghost use Rattle.maker.specs.declared.evidence.evidence.Conviction.{Conviction as TheConviction};
 ghost use Rattle.maker.specs.declared.evidence.evidence.Evidence.TheVariants.{Convicting};
 ghost use Rattle.maker.specs.Certified.{IsJudgement};
@@ -15,10 +15,9 @@ use crate::behind_runc::behind::Behind;
 use crate::behind_runc::spared::spares;
 use crate::behind_runc::stub::is_answered;
 use call_record::{Word, words_are_a_record};
-use call_tables::Arch;
 use maker::{Conviction, Evidence, Unready, judge_filter, refuse, write_judged};
 use profile::Profile;
-use profile_json::read_bundle;
+use profile_json::Document;
 use std::alloc::Global;
 use texts::{Sink, WriteFault};
 
@@ -119,21 +118,20 @@ fn judge_beside(alloc: Global, profile: &Profile, filter: &[u8], behind: &Behind
     judge_whole(alloc, profile, filter)
 }
 
-/// What is judged of a filter behind a stub, beside a bundle that is read for a native machine. The rest is asked about where the bundle
+/// What is judged of a filter behind a stub, beside a bundle. The rest is asked about where the bundle
 /// spares the calls that the stub answers, and else the whole filter. A record that is told is one on which the whole filter gives
 /// another verdict than the bundle says.
 pub fn judge_behind(
     alloc: Global,
-    native: Arch,
-    bundle: &[u8],
+    document: &Document,
     filter: &[u8],
     behind: &Behind<'_>,
 ) -> Judged
     requires { IsBehind filter.now behind.now.rest.now behind.now.answered.items }
-    ensures { IsJudgedBehind native bundle.now filter.now behind.now.rest.now behind.now.answered.items result.whole result.evidence }
+    ensures { IsJudgedBehind document.now.native document.now.bytes filter.now behind.now.rest.now behind.now.answered.items result.whole result.evidence }
 {
-    match read_bundle(alloc, bundle, native) {
-        Ok(read) => judge_beside(alloc, &read.profile, filter, behind),
+    match document.bundle() {
+        Ok(bundle) => judge_beside(alloc, &bundle.profile, filter, behind),
         Err(error) => Judged {
             whole: true,
             evidence: Err(Unready::from(error)),

@@ -1,12 +1,12 @@
 //! Whether a profile spares the calls that a stub answers.
 ghost use Rattle.std.specs.Prelude.{◌≡◌, ◌↔◌, ◌⊎◌, IsTrue, All, Any};
-ghost use Rattle.call_tables.specs.Numbers.{HasCall};
+ghost use Rattle.machines.specs.Numbers.{HasCall};
 ghost use Rattle.compare.specs.Spared.{AreSpared, IsNoCall, IsVacant, Spares, is_mild};
 ghost use Rattle.compare.specs.inner.Spans.{AreBeyond, AreLeft, AreLeftIn, cut, spans};
 
 use crate::behind_runc::stub::Calls;
 use call_record::{Word, lets_through};
-use call_tables::{Arch, LEAST_X32_NUMBER, Numbers};
+use machines::{Arch, LEAST_X32_NUMBER, Numbers};
 use profile::{Profile, Rule, are_for};
 
 // Stretches of numbers, in each of which all are of the same machines.

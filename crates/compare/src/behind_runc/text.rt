@@ -1,12 +1,12 @@
 //! The calls that a stub answers, told in plain sentences.
 ghost use Rattle.std.specs.Prelude.{◌≡◌, ◌++◌, IfOk, string_bytes};
 ghost use Rattle.std.specs.List.{flat_map};
-ghost use Rattle.call_tables.specs.Arch.{machine_name};
+ghost use Rattle.machines.specs.Arch.{machine_name};
 ghost use Rattle.wording.specs.Phrases.{hexadecimal};
 ghost use Rattle.compare.specs.StubTold as spec;
 
 use crate::behind_runc::stub::Calls;
-use call_tables::{Family, Numbers};
+use machines::{Family, Numbers};
 use std::alloc::{AllocError, Global};
 use std::fmt::Write;
 use wording::machine_with;

@@ -1,7 +1,7 @@
 //! The records that convict a filter, beside a bundle.
 ghost use Rattle.std.specs.Prelude.{◌≡◌, ◌∷◌, None, ℕ, List, IfOk, IfSome, OnOk, OnSome};
 ghost use Rattle.bpf_insn.specs.Bytes.{insns_of, view_fault};
-ghost use Rattle.call_tables.specs.declared.arch.Arch.{Arch as TheArch};
+ghost use Rattle.machines.specs.declared.arch.Arch.{Arch as TheArch};
 ghost use Rattle.kernel_check.specs.Accepted.{IsAccepted};
 ghost use Rattle.kernel_check.specs.Lent.{accepted_insns};
 ghost use Rattle.maker.specs.Certified.{AreJudged};
@@ -11,11 +11,11 @@ use crate::convictions::search::add_each;
 use crate::filters::find_differences;
 use bpf_insn::Program;
 use call_record::Record;
-use call_tables::{Arch, Family};
 use kernel_check::{Accepted, accept};
+use machines::Family;
 use maker::Conviction;
 use profile::Profile;
-use profile_json::read_bundle;
+use profile_json::Document;
 use rule_compile::compile;
 use std::alloc::{AllocError, Global};
 
@@ -64,23 +64,29 @@ fn add_beside(
 // Adds what convicts a filter beside a bundle.
 fn add_all(
     alloc: Global,
-    native: Arch,
-    bundle: &[u8],
+    document: &Document,
     filter: &[u8],
     told: &Record,
     all: &mut Vec<Conviction>,
 ) -> Result<(), AllocError>
-    ensures { AllConvict native bundle.now filter.now all.old.items → IfOk result (λ _. AllConvict native bundle.now filter.now all.new.items) }
+    ensures { AllConvict document.now.native document.now.bytes filter.now all.old.items → IfOk result (λ _. AllConvict document.now.native document.now.bytes filter.now all.new.items) }
 {
-    let read = match read_bundle(alloc, bundle, native) {
-        Ok(read) => read,
+    let bundle = match document.bundle() {
+        Ok(bundle) => bundle,
         Err(_) => return Ok(()),
     };
     let program = match accepted_of(filter) {
         Some(program) => program,
         None => return Ok(()),
     };
-    add_beside(alloc, native.family(), &read.profile, &program, told, all)
+    add_beside(
+        alloc,
+        document.native().family(),
+        &bundle.profile,
+        &program,
+        told,
+        all,
+    )
 }
 
 /// Puts a record before all others.
@@ -91,20 +97,18 @@ pub(crate) fn put_first(found: &Conviction, all: &mut Vec<Conviction>) -> Result
     Ok(())
 }
 
-/// The record that was found to convict a filter. Then one of each further call on which filter and bundle are found to differ. The bundle
-/// is read for a native machine.
+/// The record that was found to convict a filter. Then one of each further call on which filter and bundle are found to differ.
 pub fn convictions_of(
     alloc: Global,
-    native: Arch,
-    bundle: &[u8],
+    document: &Document,
     filter: &[u8],
     found: &Conviction,
 ) -> Result<Vec<Conviction>, AllocError>
-    requires { Convicts native bundle.now filter.now found.now }
-    ensures { IfOk result (λ all. AreFound native bundle.now filter.now found.now all.items) }
+    requires { Convicts document.now.native document.now.bytes filter.now found.now }
+    ensures { IfOk result (λ all. AreFound document.now.native document.now.bytes filter.now found.now all.items) }
 {
     let mut all = Vec::new(alloc);
-    add_all(alloc, native, bundle, filter, &found.call, &mut all)?;
+    add_all(alloc, document, filter, &found.call, &mut all)?;
     put_first(found, &mut all)?;
     Ok(all)
 }

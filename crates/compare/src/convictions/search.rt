@@ -1,7 +1,7 @@
 //! The search for records that convict a filter.
 ghost use Rattle.std.specs.Prelude.{◌≡◌, ℕ, List, IfOk, IfSome};
 ghost use Rattle.bpf_insn.specs.Bytes.{insns_of};
-ghost use Rattle.call_tables.specs.declared.arch.Arch.{Arch as TheArch};
+ghost use Rattle.machines.specs.declared.arch.Arch.{Arch as TheArch};
 ghost use Rattle.kernel_check.specs.Lent.{accepted_insns};
 ghost use Rattle.maker.specs.evidence.Conviction.{IsConviction};
 ghost use Rattle.maker.specs.Certified.{AreJudged};

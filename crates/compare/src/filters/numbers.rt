@@ -1,8 +1,8 @@
 //! Numbers of calls that two filters may tell apart.
 
 use bpf_insn::{MAX_INSNS, Operand, Operation};
-use call_tables::{Arch, Numbers};
 use kernel_check::Accepted;
+use machines::{Arch, Numbers};
 use std::alloc::{AllocError, Global};
 
 // The most numbers with which filters compare that are tried.

@@ -13,8 +13,8 @@ use crate::change::Change;
 use crate::difference::Difference;
 use crate::filters::search::find_differences;
 use bpf_insn::{Program, ViewError};
-use call_tables::Family;
 use kernel_check::{Accepted, Refused, accept};
+use machines::Family;
 use std::alloc::{AllocError, Global};
 
 /// What is found of two filters.

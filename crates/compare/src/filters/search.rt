@@ -10,8 +10,8 @@ use crate::filters::candidates::add_candidates;
 use crate::filters::numbers::numbers_of;
 use crate::filters::unlike::unlike;
 use call_record::Record;
-use call_tables::Family;
 use kernel_check::Accepted;
+use machines::Family;
 use std::alloc::{AllocError, Global};
 
 // The most records of one call that are tried.

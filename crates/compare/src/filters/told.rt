@@ -8,8 +8,8 @@ use crate::change::Change;
 use crate::filters::outcome::{Outcome, outcome_of};
 use crate::text::lines_of;
 use bpf_insn::ViewError;
-use call_tables::Arch;
 use kernel_check::Refused;
+use machines::Arch;
 use std::alloc::{AllocError, Global};
 use wording::Told;
 

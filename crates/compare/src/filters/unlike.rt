@@ -6,8 +6,8 @@ ghost use Rattle.compare.specs.Differ.{AnswerUnlike};
 use crate::difference::{Difference, difference_on};
 use bpf_interp::verdict;
 use call_record::Record;
-use call_tables::Family;
 use kernel_check::Accepted;
+use machines::Family;
 
 /// The verdicts of two filters on a call record, where they are unlike. The machine is told as one of a family.
 pub(crate) fn unlike(

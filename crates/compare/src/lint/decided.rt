@@ -1,12 +1,12 @@
 //! Which calls get past a profile.
 ghost use Rattle.std.specs.Prelude.{IfOk};
-ghost use Rattle.call_tables.specs.declared.arch.Family.{Family as TheFamily};
+ghost use Rattle.machines.specs.declared.arch.Family.{Family as TheFamily};
 ghost use Rattle.profile.specs.Policy.{Policy};
 ghost use Rattle.compare.specs.Past.{ArePast, IsFinding};
 
 use crate::lint::past::{Finding, Past};
 use crate::search::{Crowded, crowded_of};
-use call_tables::Family;
+use machines::Family;
 use profile::Profile;
 use std::alloc::{AllocError, Global};
 use unread_bits::all_past;

@@ -1,6 +1,6 @@
 //! Whether `lint` is worth asking about a bundle.
 ghost use Rattle.std.specs.Prelude.{◌≡◌, ◌≢◌, true, false, IfOk};
-ghost use Rattle.call_tables.specs.declared.arch.Family.{Family as TheFamily};
+ghost use Rattle.machines.specs.declared.arch.Family.{Family as TheFamily};
 ghost use Rattle.profile.specs.Policy.{Policy};
 ghost use Rattle.profile_json.specs.declared.fault.ProfileError.TheVariants.{OutOfMemory};
 ghost use Rattle.compare.specs.Hints.{IsUnhinted, IsUnpassed, SomeGetPast};
@@ -11,13 +11,9 @@ ghost use Rattle.widths.specs.Narrow.{IsBundle};
 
 use crate::lint::decided::finding;
 use crate::lint::past::Finding;
-use call_tables::Arch;
 use profile::Profile;
-use profile_json::{ProfileError, read_bundle};
+use profile_json::{Document, ProfileError};
 use std::alloc::{AllocError, Global};
-
-// A longer text gets no hint, since it would be read twice.
-const MOST_BYTES: usize = 1 << 20;
 
 // Whether some call gets past.
 fn is_some(found: &Finding) -> bool
@@ -32,17 +28,12 @@ fn is_some(found: &Finding) -> bool
 }
 
 // Whether some call gets past a profile.
-fn is_passed(
-    alloc: Global,
-    native: Arch,
-    bundle: &[u8],
-    profile: &Profile,
-) -> Result<bool, AllocError>
-    requires { IsBundle native bundle.now profile.now }
-    ensures hinted { IfOk result (λ told. told ≡ true → SomeGetPast native bundle.now) }
-    ensures unhinted { IfOk result (λ told. told ≡ false → IsUnhinted native bundle.now) }
+fn is_passed(alloc: Global, document: &Document, profile: &Profile) -> Result<bool, AllocError>
+    requires { IsBundle document.now.native document.now.bytes profile.now }
+    ensures hinted { IfOk result (λ told. told ≡ true → SomeGetPast document.now.native document.now.bytes) }
+    ensures unhinted { IfOk result (λ told. told ≡ false → IsUnhinted document.now.native document.now.bytes) }
 {
-    let found = finding(alloc, native.family(), profile)?;
+    let found = finding(alloc, document.native().family(), profile)?;
     Ok(is_some(&found))
 }
 
@@ -57,19 +48,16 @@ fn refused(error: ProfileError) -> Result<bool, AllocError>
     Ok(false)
 }
 
-/// Whether some call gets past a bundle of at most a mebibyte, as far as it is decided.
-pub fn hint(alloc: Global, native: Arch, bundle: &[u8]) -> Result<bool, AllocError>
+/// Whether some call gets past a bundle, as far as it is decided.
+pub fn hint(alloc: Global, document: &Document) -> Result<bool, AllocError>
     // If so, some call does.
-    ensures hinted { IfOk result (λ told. told ≡ true → SomeGetPast native bundle.now) }
+    ensures hinted { IfOk result (λ told. told ≡ true → SomeGetPast document.now.native document.now.bytes) }
 
-    // If not, the bundle is longer, it is refused, or nothing gets past it, as far as its calls are decided.
-    ensures unhinted { IfOk result (λ told. told ≡ false → IsUnhinted native bundle.now) }
+    // If not, the bundle is refused, or nothing gets past it, as far as its calls are decided.
+    ensures unhinted { IfOk result (λ told. told ≡ false → IsUnhinted document.now.native document.now.bytes) }
 {
-    if bundle.len() > MOST_BYTES {
-        return Ok(false);
-    }
-    match read_bundle(alloc, bundle, native) {
-        Ok(read) => is_passed(alloc, native, bundle, &read.profile),
+    match document.bundle() {
+        Ok(bundle) => is_passed(alloc, document, &bundle.profile),
         Err(error) => refused(error),
     }
 }

@@ -1,8 +1,9 @@
 //! Pairs of calls of which one does what the other does.
 use crate::lint::places::entry_at;
 use call_record::Word;
-use call_tables::Arch;
+use call_tables::call_number;
 use differ::{Direction, Unlisted, differ_on};
+use machines::Arch;
 use profile::Profile;
 use profile_json::EntryRules;
 use std::alloc::{AllocError, Global};
@@ -104,7 +105,7 @@ fn put_pair(
     pair: (&str, &str),
 ) -> Result<(), AllocError> {
     let (first, second) = pair;
-    let (Some(nr), Some(other)) = (arch.number(first), arch.number(second)) else {
+    let (Some(nr), Some(other)) = (call_number(arch, first), call_number(arch, second)) else {
         return Ok(());
     };
     let Some(in_part) = passed(alloc, profile, arch, nr, other)? else {

@@ -5,7 +5,7 @@ ghost use Rattle.profile.specs.Said.{matches};
 ghost use Rattle.compare.specs.LintTold as spec;
 
 use call_record::Record;
-use call_tables::Arch;
+use machines::Arch;
 use profile::Rule;
 use profile_json::EntryRules;
 use wording::is_match;

@@ -1,6 +1,7 @@
 //! What else in a bundle says less than it seems to. None of it changes what is decided.
 use crate::lint::pairs::put_pairs;
 use call_record::{Word, lets_through};
+use call_tables::call_name;
 use profile::{Cond, Op, Profile, Rule};
 use profile_json::EntryRules;
 use std::alloc::{AllocError, Global};
@@ -79,7 +80,7 @@ fn put_condition(text: &mut Text, entry: usize, place: usize, rule: &Rule, cond:
     let Some(remark) = remark_of(rule, cond) else {
         return;
     };
-    let name = rule.arch.name(rule.nr).unwrap_or("a call");
+    let name = call_name(rule.arch, rule.nr).unwrap_or("a call");
     let condition = ConditionText(cond);
     text.put(format_args!(
         "remark: linux.seccomp.syscalls[{entry}].args[{place}]: {name} if {condition}: {remark}\n"
@@ -94,7 +95,8 @@ fn is_again(all: &EntryRules, at: usize, rule: &Rule) -> bool {
     let Some(other) = all.rules.get(before) else {
         return false;
     };
-    all.entry_of(before) == all.entry_of(at) && other.arch.name(other.nr) == rule.arch.name(rule.nr)
+    all.entry_of(before) == all.entry_of(at)
+        && call_name(other.arch, other.nr) == call_name(rule.arch, rule.nr)
 }
 
 // Adds the remarks on a rule's conditions, once for all machines.
@@ -141,7 +143,7 @@ fn put_notified_default(text: &mut Text, profile: &Profile) {
 
 // Adds that a listener is asked about write, which runc refuses to set up.
 fn put_notified(text: &mut Text, all: &EntryRules, at: usize, rule: &Rule) {
-    if rule.word != Word::USER_NOTIF || rule.arch.name(rule.nr) != Some("write") {
+    if rule.word != Word::USER_NOTIF || call_name(rule.arch, rule.nr) != Some("write") {
         return;
     }
     if is_again(all, at, rule) {

@@ -4,8 +4,9 @@ ghost use Rattle.std.specs.List.{flat_map};
 ghost use Rattle.hex.specs.Hex.{encode_lower};
 ghost use Rattle.call_record.specs.Record.{words};
 ghost use Rattle.call_record.specs.Words.{words_of};
-ghost use Rattle.call_tables.specs.Arch.{table_of};
+ghost use Rattle.call_tables.specs.Tables.{table_of};
 ghost use Rattle.call_tables.specs.Table.{name_in};
+ghost use Rattle.profile_json.specs.ByEntry.{AreRulesOf};
 ghost use Rattle.compare.specs.LintTold as spec;
 
 use crate::lint::past::{Finding, Past};
@@ -13,9 +14,9 @@ use crate::lint::places::place_of;
 use crate::lint::remarks::remarks_of;
 use crate::search::Crowded;
 use call_record::{Record, Word};
-use call_tables::{Arch, Family};
-use profile::Profile;
-use profile_json::{EntryRules, rules_by_entry};
+use call_tables::call_name;
+use machines::{Arch, Family};
+use profile_json::{Bundle, Document, EntryRules};
 use std::alloc::{AllocError, Global};
 use std::fmt::Write;
 use wording::{ActionText, machine_with};
@@ -25,7 +26,7 @@ fn put_call_on(text: &mut String, arch: Arch, nr: u32) -> Result<(), AllocError>
     ensures { IfOk result (λ _. string_bytes text.new ≡ string_bytes text.old ++ spec.call_on (name_in (table_of arch) nr) arch nr) }
 {
     let machine = arch.machine_name();
-    match arch.name(nr) {
+    match call_name(arch, nr) {
         Some(name) => write!(text, "{name} of {machine}"),
         None => write!(text, "call {nr} of {machine}"),
     }
@@ -296,19 +297,22 @@ fn put_found(
 /// The text of what was found, and the remarks below it.
 pub(crate) fn text_of(
     alloc: Global,
-    native: Arch,
-    bundle: &[u8],
-    profile: &Profile,
+    document: &Document,
+    bundle: &Bundle,
     found: &Finding,
 ) -> Result<String, AllocError>
-    ensures { IfOk result (λ text. spec.TellsFound native bundle.now found.now (string_bytes text)) }
+    requires { AreRulesOf document.now.native document.now.bytes bundle.now.by_entry.rules.items bundle.now.by_entry.ends.items }
+    ensures { IfOk result (λ text. spec.TellsFound document.now.native document.now.bytes found.now (string_bytes text)) }
 {
-    let Ok(all) = rules_by_entry(alloc, bundle, native) else {
-        return Err(AllocError);
-    };
     let mut text = String::new(alloc);
-    put_found(alloc, &mut text, native.family(), &all, found)?;
-    let remarks = remarks_of(alloc, profile, &all)?;
+    put_found(
+        alloc,
+        &mut text,
+        document.native().family(),
+        &bundle.by_entry,
+        found,
+    )?;
+    let remarks = remarks_of(alloc, &bundle.profile, &bundle.by_entry)?;
     text.push_str(&remarks)?;
     Ok(text)
 }

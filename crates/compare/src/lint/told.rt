@@ -2,14 +2,13 @@
 ghost use Rattle.std.specs.Prelude.{◌≡◌, ℕ, List, IfOk};
 ghost use Rattle.compare.specs.Linted as spec;
 ghost use Rattle.compare.specs.Past.{IsFinding};
+ghost use Rattle.profile_json.specs.ByEntry.{AreRulesOf};
 ghost use Rattle.widths.specs.Narrow.{IsBundle};
 
 use crate::lint::decided::finding;
 use crate::lint::past::Finding;
 use crate::lint::text::text_of;
-use call_tables::Arch;
-use profile::Profile;
-use profile_json::read_bundle;
+use profile_json::{Bundle, Document};
 use std::alloc::{AllocError, Global};
 use wording::{Told, refused_profile};
 
@@ -24,13 +23,14 @@ fn is_nothing(found: &Finding) -> bool
 }
 
 // What is told of a profile.
-fn judged(alloc: Global, native: Arch, bundle: &[u8], profile: &Profile) -> Result<Told, AllocError>
-    requires { IsBundle native bundle.now profile.now }
-    ensures { IfOk result (spec.IsJudged native bundle.now) }
+fn judged(alloc: Global, document: &Document, bundle: &Bundle) -> Result<Told, AllocError>
+    requires means { IsBundle document.now.native document.now.bytes bundle.now.profile }
+    requires rules { AreRulesOf document.now.native document.now.bytes bundle.now.by_entry.rules.items bundle.now.by_entry.ends.items }
+    ensures { IfOk result (spec.IsJudged document.now.native document.now.bytes) }
 {
-    let found = finding(alloc, native.family(), profile)?;
+    let found = finding(alloc, document.native().family(), &bundle.profile)?;
     let done = is_nothing(&found);
-    let text = text_of(alloc, native, bundle, profile, &found)?;
+    let text = text_of(alloc, document, bundle, &found)?;
     Ok(Told {
         bytes: text.into_bytes(),
         done,
@@ -38,12 +38,11 @@ fn judged(alloc: Global, native: Arch, bundle: &[u8], profile: &Profile) -> Resu
 }
 
 /// Reports which calls get past a bundle by bits that the kernel does not read. Also reports what else in it says less than it seems to.
-/// The bundle is read for a native machine.
-pub fn lint(alloc: Global, native: Arch, bundle: &[u8]) -> Result<Told, AllocError>
-    ensures { IfOk result (spec.IsLinted native bundle.now) }
+pub fn lint(alloc: Global, document: &Document) -> Result<Told, AllocError>
+    ensures { IfOk result (spec.IsLinted document.now.native document.now.bytes) }
 {
-    match read_bundle(alloc, bundle, native) {
-        Ok(read) => judged(alloc, native, bundle, &read.profile),
+    match document.bundle() {
+        Ok(bundle) => judged(alloc, document, bundle),
         Err(error) => refused_profile(alloc, error),
     }
 }

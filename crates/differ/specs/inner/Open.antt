@@ -1,15 +1,12 @@
 -- Which rules are still open once some arguments are known.
-use Rattle.std.specs.Prelude.{◌≡◌, ℕ, ◌<◌, ◌==◌, ◌&&◌, ◌||◌, ◌++◌, ⊤, ◌⊎◌, not, nat_lt, Bool, true, List, filter, slice_index}
+use Rattle.std.specs.Prelude.{◌≡◌, ℕ, ◌<◌, ◌==◌, ◌&&◌, ◌||◌, ◌++◌, not, nat_lt, Bool, true, List, filter, slice_index}
 use Rattle.std.specs.List.{list_all}
 use Rattle.profile.specs.declared.conditions.Cond.{Cond}
 use Rattle.profile.specs.declared.rules.Rule.{Rule}
 use Rattle.profile.specs.Policy.{Policy}
 use Rattle.profile.specs.Rule.{argument_of}
 use Rattle.profile.specs.Said.{meets}
-use Rattle.differ.specs.Cells.{AreTooMany}
-use Rattle.differ.specs.OnCall.{bits_of, conditions_on, is_for}
-use Rattle.differ.specs.declared.listed.Unlisted.{Unlisted}
-use Rattle.differ.specs.declared.listed.Unlisted.TheVariants.{TooMany, OutOfMemory}
+use Rattle.differ.specs.OnCall.{conditions_on, is_for}
 use Rattle.differ.specs.declared.opened.Open.{Open}
 
 -- the condition is on a later argument, or the record meets it
@@ -32,8 +29,3 @@ HasFirst args j r = (i : ℕ) → i < j → argument_of r i ≡ slice_index args
 -- the conditions of open rules on one argument
 abbrev pub open_on : ℕ → Open → List Cond
 open_on j held = conditions_on j held.first.items ++ conditions_on j held.second.items
-
--- why the open rules are not followed: the walk is limited, or some conditions can answer in too many ways
-abbrev pub IsStopped : Bool → ℕ → Open → Unlisted → Type 0
-IsStopped limited token held TooMany = (limited ≡ true) ⊎ ((j : ℕ) × AreTooMany (open_on j held) (bits_of token))
-IsStopped limited token held OutOfMemory = ⊤

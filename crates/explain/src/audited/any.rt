@@ -1,6 +1,6 @@
 //! What a bundle says of a call whatever its arguments.
 ghost use Rattle.std.specs.Prelude.{◌≡◌, IfErr, IfOk, IfSome, string_bytes};
-ghost use Rattle.call_tables.specs.Arch.{family_of};
+ghost use Rattle.machines.specs.Arch.{family_of};
 ghost use Rattle.explain.specs.Any as spec;
 ghost use Rattle.profile_json.specs.Breaks.{Breaks};
 ghost use Rattle.profile_json.specs.Fault.{fault_of};
@@ -8,9 +8,9 @@ ghost use Rattle.profile_json.specs.Fault.{fault_of};
 use crate::audited::lines::{put_number, put_said};
 use crate::audited::what::what_call;
 use crate::refused::refused_word;
-use call_tables::{Arch, Family};
+use machines::{Arch, Family};
 use profile::Profile;
-use profile_json::{EntryRules, ProfileError, read_bundle, rules_by_entry};
+use profile_json::{Document, EntryRules, ProfileError};
 use std::alloc::{AllocError, Global};
 use wording::{Told, refused_profile};
 
@@ -34,33 +34,34 @@ fn told(
 // The text of what a bundle says of a call.
 fn explanation(
     alloc: Global,
-    native: Arch,
-    bundle: &[u8],
+    document: &Document,
     token: u32,
     nr: u32,
 ) -> Result<String, ProfileError>
-    ensures explains { IfOk result (λ text. spec.ExplainsAny native bundle.now token nr (string_bytes text)) }
+    ensures explains { IfOk result (λ text. spec.ExplainsAny document.now.native document.now.bytes token nr (string_bytes text)) }
     // Unless memory ran out, the fault stands in the bundle.
-    ensures fault { IfErr result (λ e. IfSome (fault_of e) (Breaks bundle.now native)) }
+    ensures fault { IfErr result (λ e. IfSome (fault_of e) (Breaks document.now.bytes document.now.native)) }
 {
-    let read = read_bundle(alloc, bundle, native)?;
-    let all = rules_by_entry(alloc, bundle, native)?;
-    let text = told(alloc, native.family(), &read.profile, &all, token, nr)?;
+    let read = document.bundle()?;
+    let text = told(
+        alloc,
+        document.native().family(),
+        &read.profile,
+        &read.by_entry,
+        token,
+        nr,
+    )?;
     Ok(text)
 }
 
-/// Tells what a bundle, which is read for a native machine, says of a call whatever its arguments. It tells each entry that has a rule for
+/// Tells what a bundle says of a call whatever its arguments. It tells each entry that has a rule for
 /// it, with its conditions, and the default.
-pub fn explain_any(
-    alloc: Global,
-    native: Arch,
-    bundle: &[u8],
-    word: &str,
-) -> Result<Told, AllocError>
-    ensures { IfOk result (spec.IsExplained native bundle.now word.now) }
+pub fn explain_any(alloc: Global, document: &Document, word: &str) -> Result<Told, AllocError>
+    ensures { IfOk result (spec.IsExplained document.now.native document.now.bytes word.now) }
 {
+    let native = document.native();
     match what_call(alloc, native, word)? {
-        Some((arch, nr)) => match explanation(alloc, native, bundle, arch.token(), nr) {
+        Some((arch, nr)) => match explanation(alloc, document, arch.token(), nr) {
             Ok(text) => Ok(Told {
                 bytes: text.into_bytes(),
                 done: true,

@@ -16,9 +16,9 @@ use crate::audited::events::{
 };
 use crate::audited::lines::{put_number, put_said};
 use call_record::Word;
-use call_tables::{Arch, Family};
+use machines::{Arch, Family};
 use profile::Profile;
-use profile_json::{EntryRules, ProfileError, read_bundle, rules_by_entry};
+use profile_json::{Document, EntryRules, ProfileError};
 use std::alloc::{AllocError, Global};
 use std::fmt::Write;
 use wording::{ActionText, Told, refused_profile};
@@ -231,26 +231,32 @@ fn told_of(
 }
 
 // What a bundle says of the events of lines.
-fn audited(alloc: Global, native: Arch, bundle: &[u8], lines: &[u8]) -> Result<Told, ProfileError>
-    ensures asks { IfOk result (spec.AsksBundle native bundle.now lines.now) }
+fn audited(alloc: Global, document: &Document, lines: &[u8]) -> Result<Told, ProfileError>
+    ensures asks { IfOk result (spec.AsksBundle document.now.native document.now.bytes lines.now) }
     // Unless memory ran out, the fault stands in the bundle.
-    ensures fault { IfErr result (λ e. IfSome (fault_of e) (Breaks bundle.now native)) }
+    ensures fault { IfErr result (λ e. IfSome (fault_of e) (Breaks document.now.bytes document.now.native)) }
 {
-    let read = read_bundle(alloc, bundle, native)?;
-    let all = rules_by_entry(alloc, bundle, native)?;
+    let read = document.bundle()?;
     let events = events_in(alloc, lines)?;
     let unread = count_unread(lines);
-    let told = told_of(alloc, native.family(), &read.profile, &all, &events, unread)?;
+    let told = told_of(
+        alloc,
+        document.native().family(),
+        &read.profile,
+        &read.by_entry,
+        &events,
+        unread,
+    )?;
     Ok(told)
 }
 
 /// Tells what each call was that lines of a kernel's audit show, as dmesg, journald, auditd and `ausearch -i` write them. Also tells
-/// whether a bundle, which is read for a native machine, may answer so, and what the bundle says of it. It is done where the bundle may
+/// whether a bundle may answer so, and what the bundle says of it. It is done where the bundle may
 /// answer so in each line of a filter's answer, and each is read.
-pub fn audit(alloc: Global, native: Arch, bundle: &[u8], lines: &[u8]) -> Result<Told, AllocError>
-    ensures { IfOk result (spec.IsAudited native bundle.now lines.now) }
+pub fn audit(alloc: Global, document: &Document, lines: &[u8]) -> Result<Told, AllocError>
+    ensures { IfOk result (spec.IsAudited document.now.native document.now.bytes lines.now) }
 {
-    match audited(alloc, native, bundle, lines) {
+    match audited(alloc, document, lines) {
         Ok(told) => Ok(told),
         Err(error) => refused_profile(alloc, error),
     }

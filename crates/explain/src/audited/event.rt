@@ -5,6 +5,7 @@ ghost use Rattle.explain.specs.Audit as spec;
 
 use crate::audited::fields::{has_fields, value};
 use crate::audited::named::{answer, call, token};
+use crate::audited::signs::{is_doubled, is_marked, signs_on};
 
 /// What a filter answered.
 #[derive(Clone, Copy)]
@@ -52,10 +53,10 @@ fn event_of(machine: &str, number: &str, code: &str) -> Option<Event>
     Some(Event { token, nr, answer })
 }
 
-/// What a line tells, if it is one of a filter's answers: it has the fields `arch`, `syscall` and `code`, and they are understood.
-#[tactic(auto, unfolding(crate::specs::Audit::event_in))]
-pub(crate) fn event_in(line: &[u8]) -> Option<Event>
-    ensures { result ≡ spec.event_in line.now }
+// What the fields of a line tell: `arch`, `syscall` and `code`, if it has them, and they are understood.
+#[tactic(auto, unfolding(crate::specs::Audit::event_by))]
+fn event_by(line: &[u8]) -> Option<Event>
+    ensures { result ≡ spec.event_by line.now }
 {
     let machine = text(b"arch=", line)?;
     let number = text(b"syscall=", line)?;
@@ -63,12 +64,36 @@ pub(crate) fn event_in(line: &[u8]) -> Option<Event>
     event_of(machine, number, code)
 }
 
-/// Whether a line has these fields, and they are not understood.
+/// What a line tells, if it is one of a filter's answers. A line with two records tells nothing.
+#[tactic(auto, unfolding(crate::specs::Audit::event_in))]
+pub(crate) fn event_in(line: &[u8]) -> Option<Event>
+    ensures { result ≡ spec.event_in line.now }
+{
+    if is_doubled(signs_on(line)) {
+        return None;
+    }
+    event_by(line)
+}
+
+// Whether a line is a filter's record, whole or cut.
+fn is_record(line: &[u8]) -> bool
+    ensures { result ≡ spec.is_record line.now }
+{
+    if is_marked(signs_on(line)) {
+        return true;
+    }
+    has_fields(line)
+}
+
+/// Whether a line is a filter's record that is not understood, or says that records were lost.
 #[tactic(auto, unfolding(crate::specs::Audit::is_unread))]
 pub(crate) fn is_unread(line: &[u8]) -> bool
     ensures { result ≡ spec.is_unread line.now }
 {
-    if has_fields(line) {
+    if signs_on(line).lost {
+        return true;
+    }
+    if is_record(line) {
         return event_in(line).is_none();
     }
     false

@@ -19,8 +19,8 @@ fn split(line: &[u8], byte: u8) -> Option<(&[u8], &[u8])>
     None
 }
 
-// A line at its first space, if it has one.
-fn split_word(line: &[u8]) -> Option<(&[u8], &[u8])>
+/// A line at its first space, if it has one.
+pub(crate) fn split_word(line: &[u8]) -> Option<(&[u8], &[u8])>
     ensures words { MatchOption result (spec.words_on line.now ≡ line.now ∷ [])
         (λ parts. spec.words_on line.now ≡ parts.0.now ∷ spec.words_on parts.1.now) }
     ensures shorter { IfSome result (λ parts. length parts.1.now < length line.now) }
@@ -28,8 +28,8 @@ fn split_word(line: &[u8]) -> Option<(&[u8], &[u8])>
     split(line, b' ')
 }
 
-// What follows a key in a word, if the word begins with it.
-fn rest_behind<'a>(key: &[u8], word: &'a [u8]) -> Option<&'a [u8]>
+/// What follows a key in a word, if the word begins with it.
+pub(crate) fn rest_behind<'a>(key: &[u8], word: &'a [u8]) -> Option<&'a [u8]>
     ensures { option_map (λ text. text.now) result ≡ behind key.now word.now }
 {
     word.strip_prefix(key)

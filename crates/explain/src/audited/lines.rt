@@ -1,12 +1,13 @@
 //! The rules of a bundle for a call, told whatever the arguments.
 ghost use Rattle.std.specs.Prelude.{◌≡◌, ◌+◌, ◌++◌, ◌∷◌, List, codes, IfOk, Some, None, string_bytes};
 ghost use Rattle.std.specs.List.{list_any};
-ghost use Rattle.call_tables.specs.Numbers.{has_call};
+ghost use Rattle.machines.specs.Numbers.{has_call};
 ghost use Rattle.wording.specs.Phrases as phrases;
 ghost use Rattle.profile.specs.declared.rules.Rule.{Rule as TheRule};
 ghost use Rattle.explain.specs.Any as spec;
 
-use call_tables::{Arch, Family};
+use call_tables::call_name;
+use machines::{Arch, Family};
 use profile::{Cond, Profile, Rule, are_for};
 use profile_json::EntryRules;
 use std::alloc::AllocError;
@@ -18,7 +19,7 @@ fn put_call(text: &mut String, arch: Arch, nr: u32) -> Result<(), AllocError>
     ensures { IfOk result (λ _. string_bytes text.new ≡ string_bytes text.old ++ phrases.call_on (Some arch) 0 nr) }
 {
     let machine = arch.machine_name();
-    match arch.name(nr) {
+    match call_name(arch, nr) {
         Some(name) => writeln!(text, "call {name}, number {nr} of {machine}"),
         None => writeln!(text, "call {nr} of {machine}"),
     }

@@ -1,14 +1,15 @@
 //! What the values of a line's fields mean, as a kernel writes them, and as auditd says them by names.
 ghost use Rattle.std.specs.Prelude.{◌≡◌};
 ghost use Rattle.std.specs.Option.{option_map};
-ghost use Rattle.call_tables.specs.Arch.{table_of};
+ghost use Rattle.call_tables.specs.Tables.{table_of};
 ghost use Rattle.texts.specs.Splits.{behind};
 ghost use Rattle.explain.specs.Audit as spec;
 ghost use Rattle.explain.specs.inner.Names.{pairs};
 
 use crate::audited::event::Answer;
 use call_record::Word;
-use call_tables::Arch;
+use call_tables::call_number;
+use machines::Arch;
 use texts::{decimal, hexadecimal, split};
 
 /// The names of calls that auditd has in place of Linux's, each with Linux's.
@@ -142,7 +143,7 @@ fn other_number(machine: Arch, names: &[(&str, &str)], name: &str) -> Option<u32
 {
     for entry in names {
         if entry.0 == name {
-            return machine.number(entry.1);
+            return call_number(machine, entry.1);
         }
     }
     None
@@ -153,9 +154,7 @@ fn other_number(machine: Arch, names: &[(&str, &str)], name: &str) -> Option<u32
 fn call_named(machine: Arch, name: &str) -> Option<u32>
     ensures { result ≡ spec.call_named machine name.now }
 {
-    machine
-        .number(name)
-        .or(other_number(machine, other_names(), name))
+    call_number(machine, name).or(other_number(machine, other_names(), name))
 }
 
 // Of the machine that auditd names beside it.
@@ -212,6 +211,17 @@ fn action_named(word: &str) -> Option<Answer>
     None
 }
 
+// The answer of a number, if it has no data: a kernel writes the action alone.
+fn bare_code(code: u32) -> Option<Answer>
+    ensures { result ≡ spec.bare_code code }
+{
+    if Word(code).action() == Word(code) {
+        Some(Answer::Code(code))
+    } else {
+        None
+    }
+}
+
 // The answer whose number is written.
 #[tactic(auto, unfolding(crate::specs::Audit::written_code))]
 fn written_code(text: &str) -> Option<Answer>
@@ -219,7 +229,7 @@ fn written_code(text: &str) -> Option<Answer>
 {
     let digits = rest_behind("0x", text)?;
     let code = hexadecimal_value(digits)?;
-    Some(Answer::Code(code))
+    bare_code(code)
 }
 
 /// What a filter answered, in hexadecimal or by the action's name.

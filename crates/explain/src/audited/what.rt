@@ -1,11 +1,11 @@
 //! The call that a word asks for.
 ghost use Rattle.std.specs.Prelude.{◌≡◌, ◌++◌, ℕ, List, None, codes, IfOk, IfSome, string_bytes};
-ghost use Rattle.call_tables.specs.declared.arch.Arch.{Arch as TheArch};
+ghost use Rattle.machines.specs.declared.arch.Arch.{Arch as TheArch};
 ghost use Rattle.explain.specs.inner.Found as spec;
 ghost use Rattle.script.specs.Requests.{command_of};
 ghost use Rattle.explain.specs.Any.{IsWhat};
 
-use call_tables::Arch;
+use machines::Arch;
 use script::{Request, one_command, read_line};
 use std::alloc::{AllocError, Global};
 

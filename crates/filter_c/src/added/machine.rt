@@ -2,7 +2,7 @@
 ghost use Rattle.std.specs.Prelude.{◌≡◌, ◌<◌, Some, None, IfOk, IfErr, map, length, slice_get};
 ghost use Rattle.filter_c.specs.Machine.{machine_with};
 
-use call_tables::Arch;
+use machines::Arch;
 use std::alloc::{AllocError, Global};
 
 /// The machine with this number, in which x32 differs from x86-64.

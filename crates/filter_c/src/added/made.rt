@@ -14,7 +14,7 @@ use crate::added::fault::AddedError;
 use crate::added::given::AddedRule;
 use crate::added::machine::machine_with;
 use call_record::Word;
-use call_tables::Arch;
+use machines::Arch;
 use profile::{BuildError, Profile, Rule};
 use std::alloc::Global;
 

@@ -1,10 +1,10 @@
 -- The program that is made of another: instructions in front tell the calls of machines, and then stands that program, twice.
 use Rattle.std.specs.Prelude.{ℕ, ◌==◌, ◌-◌, List, [], ◌∷◌, ◌++◌, length, if◌then◌else◌}
 use Rattle.call_record.specs.Verdict.{allow, kill_thread}
-use Rattle.call_tables.specs.declared.arch.Arch.{Arch}
-use Rattle.call_tables.specs.declared.numbers.Numbers.{Numbers}
-use Rattle.call_tables.specs.Arch.{token_of}
-use Rattle.call_tables.specs.Numbers.{own_numbers}
+use Rattle.machines.specs.declared.arch.Arch.{Arch}
+use Rattle.machines.specs.declared.numbers.Numbers.{Numbers}
+use Rattle.machines.specs.Arch.{token_of}
+use Rattle.machines.specs.Numbers.{own_numbers}
 use Rattle.bpf_insn.specs.declared.instruction.Insn.{Insn}
 use Rattle.flatten.specs.Unflat.{is_return}
 use Rattle.flatten.specs.inner.Turns.{insn, return_of}

@@ -1,7 +1,7 @@
 -- What decides whether two rules overlap: numbers that meet the conditions of both.
 use Rattle.std.specs.Prelude.{◌≡◌, ℕ, ◌≤◌, ◌-◌, ◌^◌, Bool, if◌then◌else◌, List, bit_and, bit_or}
 use Rattle.std.specs.List.{All}
-use Rattle.call_tables.specs.Arch.{token_of}
+use Rattle.machines.specs.Arch.{token_of}
 use Rattle.profile.specs.declared.conditions.Cond.{Cond}
 use Rattle.profile.specs.declared.rules.Rule.{Rule}
 use Rattle.profile.specs.Operator.{mask_of}

@@ -3,11 +3,11 @@ use Rattle.std.proofs.Common.{◌≡◌, ◌≢◌, ℕ, suc, List, map, get_or,
 use Rattle.std.proofs.Common.{Bor, inl, inr, refl, sym, ◌∙◌, ap, subst, arith}
 use Rattle.std.specs.List.{Contains, Any}
 use Rattle.std.proofs.lemmas.Option.{same_Some}
-use Rattle.call_tables.specs.declared.arch.Arch.{Arch}
-use Rattle.call_tables.specs.Arch.{table_of}
+use Rattle.machines.specs.declared.arch.Arch.{Arch}
+use Rattle.call_tables.specs.Tables.{table_of}
 use Rattle.call_tables.specs.Table.{number_in, name_in}
-use Rattle.call_tables.specs.Numbers.{HasCall, IsOwn}
-use Rattle.call_tables.proofs.ArchLaws.{table_of-inverse}
+use Rattle.machines.specs.Numbers.{HasCall, IsOwn}
+use Rattle.call_tables.proofs.InverseLaws.{table_of-inverse}
 use Rattle.call_tables.proofs.OwnLaws.{table_of-own}
 use Rattle.call_record.specs.Words.{word}
 use Rattle.profile.specs.Policy.{InOrder}

@@ -3,7 +3,7 @@ use Rattle.std.proofs.Common.{◌≡◌, ℕ, zero, suc, ◌+◌, ◌-◌, ◌<�
 use Rattle.std.proofs.Common.{◌∙◌, ap, subst, arith}
 use Rattle.std.specs.List.{Contains, slice_get, position_from}
 use Rattle.std.proofs.lemmas.Bool.{cases_Bool, ltb-true, ltb-false}
-use Rattle.call_tables.specs.declared.arch.Arch.{Arch}
+use Rattle.machines.specs.declared.arch.Arch.{Arch}
 use Rattle.profile_json.specs.Parts.{EntryParts, RuleParts}
 use Rattle.profile_json.specs.Rules.{rules_of_entry, rules_of, ends_after}
 use Rattle.profile_json.proofs.Lists.{contains_at}

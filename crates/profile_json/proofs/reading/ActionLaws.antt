@@ -6,8 +6,8 @@ use Rattle.std.specs.Str.{bytes_eq}
 use Rattle.std.proofs.lemmas.Bool.{leb-true, leb-false}
 use Rattle.std.proofs.lemmas.Option.{same_Some}
 use Rattle.serde_json.specs.Data.{Data}
-use Rattle.call_tables.specs.declared.arch.Family.{Family}
-use Rattle.call_tables.specs.declared.arch.Family.TheVariants.{Chosen, Whole}
+use Rattle.machines.specs.declared.arch.Family.{Family}
+use Rattle.machines.specs.declared.arch.Family.TheVariants.{Chosen, Whole}
 use Rattle.profile_json.specs.declared.action.Action.{Action}
 use Rattle.profile_json.specs.Fault.{Fault, wrong_type, missing_key, unknown_action, errno_not_taken, errno_range}
 use Rattle.profile_json.specs.Lookup.{Member, missing, other_type, holds, member, text, whole}

@@ -1,35 +1,37 @@
 -- A bundle as a whole: what is read and made is meant, and what is refused is broken.
-use Rattle.std.proofs.Common.{◌≡◌, ℕ, zero, suc, List, [], ◌∷◌, Result, Ok, Err, Option, Some, None, IfSome}
+use Rattle.std.proofs.Common.{◌≡◌, ℕ, zero, suc, List, [], ◌∷◌, map, Result, Ok, Err, Option, Some, None, IfSome}
 use Rattle.std.proofs.Common.{IsSomeAnd}
-use Rattle.std.proofs.Common.{inl, inr, refl, sym, ◌∙◌, ap, subst}
+use Rattle.std.proofs.Common.{refl, sym, ◌∙◌, ap, subst}
 use Rattle.std.specs.List.{AllZip, Contains, slice_get}
 use Rattle.std.proofs.lemmas.List.Elements.{All-contains}
 use Rattle.std.proofs.lemmas.Option.{same_Some}
 use Rattle.serde_json.specs.Data.{Data}
-use Rattle.call_tables.specs.declared.arch.Arch.{Arch}
-use Rattle.call_tables.specs.declared.arch.Family.{Family}
-use Rattle.call_tables.specs.Arch.{family_of}
+use Rattle.machines.specs.declared.arch.Arch.{Arch}
+use Rattle.machines.specs.declared.arch.Family.{Family}
+use Rattle.machines.specs.Arch.{family_of}
+use Rattle.profile.specs.declared.rules.Rule.{Rule}
 use Rattle.profile.specs.Policy.{Policy}
 use Rattle.profile.specs.Machines.{in_order}
 use Rattle.profile.proofs.MachineLaws.{stays}
 use Rattle.profile.proofs.OneBuilt.{one_order}
 use Rattle.profile_json.specs.Keys as key
 use Rattle.profile_json.specs.Fault.{Fault, overlap}
-use Rattle.profile_json.specs.Parts.{EntryParts}
+use Rattle.profile_json.specs.Parts.{EntryParts, rule_parts}
 use Rattle.profile_json.specs.CallName.{short_name}
-use Rattle.profile_json.specs.Rules.{rules_of}
+use Rattle.profile_json.specs.Rules.{rules_of, ends_after}
+use Rattle.profile_json.specs.ByEntry.{AreRulesOf}
 use Rattle.profile_json.specs.inner.Outcome.{◌>>=◌}
 use Rattle.profile_json.specs.inner.Reading.{Said, default_of, keys_of, archs_of, entries_of, root_of, said_of}
 use Rattle.profile_json.specs.Meaning.{IsText, RootMeans, VerdictMeans, KeysMean, ListsArchs, EntryMeans, EntriesMean, Means}
-use Rattle.profile_json.specs.Breaks.{Breaks, VerdictBreaks, EntriesBreak, SeccompBreaks, ValueBreaks}
+use Rattle.profile_json.specs.Breaks.{Breaks, VerdictBreaks, EntriesBreak, ListBreaks, SeccompBreaks, ValueBreaks}
 use Rattle.profile_json.specs.Breaks as broken
 use Rattle.profile_json.specs.inner.Making.{IsMade, IsNotMade, many, clash}
-use Rattle.profile_json.proofs.reading.Steps.{bind_ok, bind_err, ok_same, not_ok}
+use Rattle.profile_json.proofs.reading.Steps.{bind_ok, ok_same}
 use Rattle.profile_json.proofs.reading.RootLaws.{root_breaks}
 use Rattle.profile_json.proofs.reading.ActionLaws.{verdict_means, verdict_breaks}
-use Rattle.profile_json.proofs.reading.KeyLaws.{keys_mean, keys_break}
-use Rattle.profile_json.proofs.reading.ArchLaws.{lists_archs, archs_refused, listed_of_family}
-use Rattle.profile_json.proofs.reading.EntryLaws.{entries_mean, EntriesRefused, is_no_list, are_many, in_one_entry, entries_refused}
+use Rattle.profile_json.proofs.reading.KeyLaws.{keys_mean}
+use Rattle.profile_json.proofs.reading.ArchLaws.{lists_archs, listed_of_family}
+use Rattle.profile_json.proofs.reading.EntryLaws.{entries_mean}
 
 -- what is read of the object under linux.seccomp
 pub record SaidMeans (s : Data) (native : Arch) (said : Said) : Type 0 where
@@ -43,7 +45,7 @@ default_means : (family : Family) (s : Data) (w : ℕ) → default_of family s �
 unfolding default_of
 default_means family s w h = verdict_means family key.default_action key.default_errno_ret s w h
 
-default_breaks : (family : Family) (s : Data) (f : Fault) → default_of family s ≡ Err f → VerdictBreaks family key.default_action key.default_errno_ret s f
+pub default_breaks : (family : Family) (s : Data) (f : Fault) → default_of family s ≡ Err f → VerdictBreaks family key.default_action key.default_errno_ret s f
 unfolding default_of
 default_breaks family s f h = verdict_breaks family key.default_action key.default_errno_ret s f h
 
@@ -77,29 +79,25 @@ said_means s native x h =
     } in
     subst (SaidMeans s native) (ok_same (said w.0 a.0 e.0) x e.2) means
 
-entries_break : (s : Data) (native : Arch) (f : Fault) → EntriesRefused (family_of native) s f → EntriesBreak s native f
-entries_break s native _ (is_no_list e) = broken.EntriesBreak.no_list e
-entries_break s native _ (are_many ds at e) = broken.EntriesBreak.many ds at e
-entries_break s native f (in_one_entry ds d _ at in_ds e) = broken.EntriesBreak.in_entry ds d f at in_ds e
-
-pub said_breaks : (s : Data) (native : Arch) (f : Fault) → said_of native s ≡ Err f → SeccompBreaks s native f
-unfolding said_of said after_default after_keys after_archs
-said_breaks s native f h =
-    elim (bind_err (default_of (family_of native) s) (after_default native s) f h) [
-      | inl bad ↦ broken.SeccompBreaks.default_word f (default_breaks (family_of native) s f bad)
-      | inr w ↦ elim (bind_err (keys_of (family_of native) s) (after_keys native s w.0) f w.2) [
-        | inl bad ↦ broken.SeccompBreaks.keys f (keys_break (family_of native) s f bad)
-        | inr r ↦ elim (bind_err (archs_of native s) (after_archs native s w.0) f r.2) [
-          | inl bad ↦ broken.SeccompBreaks.archs f (archs_refused s native f bad)
-          | inr a ↦ elim (bind_err (entries_of (family_of native) s) (λ entries. Ok (said w.0 a.0 entries)) f a.2) [
-            | inl bad ↦ broken.SeccompBreaks.entries f (entries_break s native f (entries_refused (family_of native) s f bad))
-            | inr e ↦ absurd (not_ok (said w.0 a.0 e.0) f e.2)
-          ]
-        ]
-      ]
-    ]
-
 -- ---- the whole
+
+-- the rules of what is read are those that the entries say
+pub rules_are_of : (bytes : List ℕ) (t s : Data) (native : Arch) (x : Said) (rules : List Rule) (ends : List ℕ) → IsText bytes t
+    → RootMeans (family_of native) t s → SaidMeans s native x
+    → map rule_parts rules ≡ rules_of (in_order (family_of native) x.archs) x.entries
+    → ends ≡ ends_after 0 (in_order (family_of native) x.archs) x.entries → AreRulesOf native bytes rules ends
+rules_are_of bytes t s native x rules ends text root said rules_are ends_are = record {
+  t = t;
+  is_text = text;
+  seccomp = s;
+  root = root;
+  archs = x.archs;
+  lists_archs = said.archs;
+  entries = x.entries;
+  entries_are = said.entries;
+  rules_are = rules_are;
+  ends_are = ends_are;
+}
 
 pub bundle_means : (t s : Data) (native : Arch) (x : Said) (p : Policy) → RootMeans (family_of native) t s → SaidMeans s native x → IsMade x native p
     → Means t native p
@@ -139,31 +137,19 @@ entry_at family (d ∷ ds) [] i e z h = absurd z
 entry_at family (d ∷ ds) (y ∷ ys) zero e z h = (d, refl, subst (EntryMeans family d) (same_Some y e h) z.0)
 entry_at family (d ∷ ds) (y ∷ ys) (suc i) e z h = entry_at family ds ys i e z.1 h
 
-pub not_made_breaks : (s : Data) (native : Arch) (x : Said) (f : Fault) → SaidMeans s native x → IsNotMade x native f → SeccompBreaks s native f
-not_made_breaks s native x _ said (many rules are more) =
-    broken.SeccompBreaks.entries _ (broken.EntriesBreak.many_rules x.archs x.entries rules more.0 said.archs said.entries are more.1 more.2)
-not_made_breaks s native x f said (clash _ o) =
+pub not_made_at : (s : Data) (native : Arch) (x : Said) (f : Fault) → SaidMeans s native x → IsNotMade x native f → ListBreaks s native f
+not_made_at s native x _ said (many rules are more) =
+    broken.ListBreaks.many_rules x.archs x.entries rules more.0 said.archs said.entries are more.1 more.2
+not_made_at s native x f said (clash _ o) =
     let d = entry_at (family_of native) said.entries.values x.entries o.first o.x said.entries.each o.x_at in
     let e = entry_at (family_of native) said.entries.values x.entries o.second o.y said.entries.each o.y_at in
-    let break : EntriesBreak s native (overlap (short_name o.name) o.first o.second) =
-    broken.EntriesBreak.overlapping x.archs said.entries.values o.first o.second d.0 e.0 o.x o.y o.name said.archs
+    let break : ListBreaks s native (overlap (short_name o.name) o.first o.second) =
+    broken.ListBreaks.overlapping x.archs said.entries.values o.first o.second d.0 e.0 o.x o.y o.name said.archs
     said.entries.values_are o.in_order d.1 e.1 d.2 e.2 o.clash in
-    broken.SeccompBreaks.entries f (subst (EntriesBreak s native) (sym o.fault_is) break)
+    subst (ListBreaks s native) (sym o.fault_is) break
 
 -- what each refusal of the reader says of the bytes
 pub root_fault : (bytes : List ℕ) (native : Arch) (t : Data) (o : Option Fault) → IsText bytes t → IsSomeAnd o (λ f. root_of (family_of native) t ≡ Err f)
     → IfSome o (Breaks bytes native)
 root_fault bytes native t None text h = absurd h
 root_fault bytes native t (Some f) text h = broken.in_value t f text (broken.ValueBreaks.root f (root_breaks (family_of native) t f h))
-
-pub said_fault : (bytes : List ℕ) (native : Arch) (t s : Data) (o : Option Fault) → IsText bytes t → RootMeans (family_of native) t s
-    → IfSome o (λ f. said_of native s ≡ Err f) → IfSome o (Breaks bytes native)
-said_fault bytes native t s None text root h = tt
-said_fault bytes native t s (Some f) text root h =
-    broken.in_value t f text (broken.ValueBreaks.seccomp s f root.seccomp (said_breaks s native f h))
-
-pub made_fault : (bytes : List ℕ) (native : Arch) (t s : Data) (x : Said) (o : Option Fault) → IsText bytes t → RootMeans (family_of native) t s
-    → SaidMeans s native x → IfSome o (IsNotMade x native) → IfSome o (Breaks bytes native)
-made_fault bytes native t s x None text root said h = tt
-made_fault bytes native t s x (Some f) text root said h =
-    broken.in_value t f text (broken.ValueBreaks.seccomp s f root.seccomp (not_made_breaks s native x f said h))

@@ -5,9 +5,9 @@ use Rattle.std.specs.List.{AllZip, Contains, slice_get}
 use Rattle.serde_json.specs.Read.{read}
 use Rattle.std.proofs.lemmas.Option.{same_Some}
 use Rattle.serde_json.specs.Data.{Data}
-use Rattle.call_tables.specs.declared.arch.Arch.{Arch}
-use Rattle.call_tables.specs.declared.arch.Family.{Family}
-use Rattle.call_tables.specs.Arch.{family_of}
+use Rattle.machines.specs.declared.arch.Arch.{Arch}
+use Rattle.machines.specs.declared.arch.Family.{Family}
+use Rattle.machines.specs.Arch.{family_of}
 use Rattle.profile.specs.declared.rules.Rule.{Rule}
 use Rattle.profile.specs.Machines.{in_order}
 use Rattle.profile.specs.Policy.{Policy}
@@ -19,7 +19,7 @@ use Rattle.profile_json.specs.Parts.{EntryParts, rule_parts}
 use Rattle.profile_json.specs.Lookup.{member, or_default, list}
 use Rattle.profile_json.specs.Rules.{rules_under, rules_of_entry, rules_of}
 use Rattle.profile_json.specs.Meaning.{none, VerdictMeans, EntryMeans, EntriesMean, CallsMean, Means}
-use Rattle.profile_json.specs.Breaks.{ClashUnder, EntriesBreak, no_list, many, in_entry, many_rules, overlapping, SeccompBreaks}
+use Rattle.profile_json.specs.Breaks.{ClashUnder, EntriesBreak, ListBreaks, in_list, no_list, many, in_entry, many_rules, overlapping, SeccompBreaks}
 use Rattle.profile_json.specs.Breaks.{default_word, keys, archs, entries, ValueBreaks, root, seccomp, no_value, in_value}
 use Rattle.profile_json.specs.Laws.{MeaningIsUnbroken, MeaningIsOne, MeaningIsKept, MeaningIsWidened}
 use Rattle.profile_json.proofs.Lists.{contains_at, contains_map_back, contains_flat, related, related_at, one_related}
@@ -75,18 +75,13 @@ module _ (s : Data) (native : Arch) (p : Policy) (m : CallsMean s native p) wher
       let o = c.clash.1 in
       c.clash.0 (m.clear o.0 o.1 c.first c.second a b o.2 o.3)
 
-  entries_unbroken : (f : Fault) → EntriesBreak s native f → ⊥
-  entries_unbroken _ (no_list e) = none_some (or_default [] (member list key.syscalls s)) m.entries_are.values e m.entries_are.values_are
-  entries_unbroken _ (many ds at e) =
+  list_unbroken : (f : Fault) → ListBreaks s native f → ⊥
+  list_unbroken _ (no_list e) = none_some (or_default [] (member list key.syscalls s)) m.entries_are.values e m.entries_are.values_are
+  list_unbroken _ (many ds at e) =
       let long : length ds ≡ length m.entries_are.values = ap length (one_values s ds m.entries_are.values at m.entries_are.values_are) in
       let few = m.entries_are.few in
       omega (arith, few, long, e)
-  entries_unbroken f (in_entry ds d _ at in_ds bad) =
-      let means = m.entries_are in
-      let same : ds ≡ means.values = one_values s ds means.values at means.values_are in
-      let e = related (EntryMeans (family_of native)) means.values m.entries d means.each (subst (λ xs. Contains xs d) same in_ds) in
-      entry_unbroken (family_of native) d e.0 f e.1 bad
-  entries_unbroken _ (many_rules machines es said kept lists means is keeps long) =
+  list_unbroken _ (many_rules machines es said kept lists means is keeps long) =
       let archs_same : machines ≡ m.archs = one_archs s native machines m.archs lists m.lists_archs in
       let entries_same : es ≡ m.entries = one_entries (family_of native) s es m.entries means m.entries_are in
       let rules_are : rules_of (in_order (family_of native) machines) es ≡ rules_of (in_order (family_of native) m.archs) m.entries =
@@ -96,10 +91,18 @@ module _ (s : Data) (native : Arch) (p : Policy) (m : CallsMean s native p) wher
       let as_many : length kept ≡ length p.rules = ap length kept_same in
       let few = m.few in
       omega (arith, as_many, few, long)
-  entries_unbroken _ (overlapping machines ds i j d e x y name lists at lt at_i at_j is_x is_y clash) =
+  list_unbroken _ (overlapping machines ds i j d e x y name lists at lt at_i at_j is_x is_y clash) =
       let archs_same : machines ≡ m.archs = one_archs s native machines m.archs lists m.lists_archs in
       let there : ClashUnder (in_order (family_of native) m.archs) x y name = subst (λ listed. ClashUnder (in_order (family_of native) listed) x y name) archs_same clash in
       clash_unbroken x y name (among ds i d x at at_i is_x) (among ds j e y at at_j is_y) there
+
+  entries_unbroken : (f : Fault) → EntriesBreak s native f → ⊥
+  entries_unbroken f (in_list _ h) = list_unbroken f h
+  entries_unbroken f (in_entry ds d _ at in_ds bad) =
+      let means = m.entries_are in
+      let same : ds ≡ means.values = one_values s ds means.values at means.values_are in
+      let e = related (EntryMeans (family_of native)) means.values m.entries d means.each (subst (λ xs. Contains xs d) same in_ds) in
+      entry_unbroken (family_of native) d e.0 f e.1 bad
 
 -- ---- the whole
 

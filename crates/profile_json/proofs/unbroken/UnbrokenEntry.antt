@@ -3,14 +3,14 @@ use Rattle.std.proofs.Common.{◌≡◌, ℕ, List, [], length, Some, true, sym,
 use Rattle.std.specs.List.{AllZip, Contains}
 use Rattle.std.proofs.lemmas.Option.{same_Some}
 use Rattle.serde_json.specs.Data.{Data}
-use Rattle.call_tables.specs.declared.arch.Family.{Family}
+use Rattle.machines.specs.declared.arch.Family.{Family}
 use Rattle.profile_json.specs.Keys as key
 use Rattle.profile_json.specs.Fault.{Fault}
 use Rattle.profile_json.specs.Parts.{CondParts, EntryParts}
 use Rattle.profile_json.specs.Lookup.{holds, member, object, text, list}
 use Rattle.profile_json.specs.Names.{is_known}
 use Rattle.profile_json.specs.Meaning.{NamesMean, EntryMeans}
-use Rattle.profile_json.specs.Breaks.{NamesBreak, no_list, many, no_text, unknown, EntryBreaks, no_object, names, word, args}
+use Rattle.profile_json.specs.Breaks.{NamesListBreaks, no_list, many, NameBreaks, no_text, unknown, NamesBreak, EntryBreaks, no_object, names, word, args}
 use Rattle.profile_json.specs.Breaks as breaks
 use Rattle.profile_json.proofs.Lists.{related, one_related}
 use Rattle.profile_json.proofs.reading.Steps.{needed_unbroken, is_some_not_none, holds_same, none_some, true_false}
@@ -26,27 +26,31 @@ IsName family value name = (text value ≡ Some name) × (is_known family name �
 one_values : (d : Data) (ds xs : List Data) → member list key.names d ≡ holds ds → member list key.names d ≡ holds xs → ds ≡ xs
 one_values d ds xs p q = holds_same ds xs (sym p ∙ q)
 
-names_unbroken : (family : Family) (d : Data) (ns : List (List ℕ)) (f : Fault) → NamesMean family d ns → NamesBreak family d f → ⊥
-names_unbroken family d ns f m (no_list _ e) = needed_unbroken (member list key.names d) m.values f m.values_are e
-names_unbroken family d ns _ m (breaks.none e) =
+list_unbroken : (family : Family) (d : Data) (ns : List (List ℕ)) (f : Fault) → NamesMean family d ns → NamesListBreaks family d f → ⊥
+list_unbroken family d ns f m (no_list _ e) = needed_unbroken (member list key.names d) m.values f m.values_are e
+list_unbroken family d ns _ m (breaks.none e) =
     let same : m.values ≡ [] = one_values d m.values [] m.values_are e in
     let some = m.some in
     let empty : length m.values ≡ 0 = ap length same in
     omega (arith, some, empty)
-names_unbroken family d ns _ m (many ds at e) =
+list_unbroken family d ns _ m (many ds at e) =
     let same : m.values ≡ ds = one_values d m.values ds m.values_are at in
     let few = m.few in
     let long : length m.values ≡ length ds = ap length same in
     omega (arith, few, long, e)
-names_unbroken family d ns _ m (no_text ds x at in_ds e) =
+
+name_unbroken : (family : Family) (x : Data) (name : List ℕ) (f : Fault) → IsName family x name → NameBreaks family x f → ⊥
+name_unbroken family x name _ is (no_text e) = none_some (text x) name e is.0
+name_unbroken family x name _ is (unknown t e u) =
+    let names_it : name ≡ t = same_Some name t (sym is.0 ∙ e) in
+    true_false (is_known family t) (ap (is_known family) (sym names_it) ∙ is.1) u
+
+names_unbroken : (family : Family) (d : Data) (ns : List (List ℕ)) (f : Fault) → NamesMean family d ns → NamesBreak family d f → ⊥
+names_unbroken family d ns f m (breaks.NamesBreak.in_list _ e) = list_unbroken family d ns f m e
+names_unbroken family d ns f m (breaks.NamesBreak.in_name ds x _ at in_ds e) =
     let same : ds ≡ m.values = one_values d ds m.values at m.values_are in
     let name = related (IsName family) m.values ns x m.each (subst (λ xs. Contains xs x) same in_ds) in
-    none_some (text x) name.0 e name.1.0
-names_unbroken family d ns _ m (unknown ds x t at in_ds e u) =
-    let same : ds ≡ m.values = one_values d ds m.values at m.values_are in
-    let name = related (IsName family) m.values ns x m.each (subst (λ xs. Contains xs x) same in_ds) in
-    let names_it : name.0 ≡ t = same_Some name.0 t (sym name.1.0 ∙ e) in
-    true_false (is_known family t) (ap (is_known family) (sym names_it) ∙ name.1.1) u
+    name_unbroken family x name.0 f name.1 e
 
 one_name : (family : Family) (d : Data) (x y : List ℕ) → IsName family d x → IsName family d y → x ≡ y
 one_name family d x y p q = same_Some x y (sym p.0 ∙ q.0)

@@ -1,7 +1,7 @@
 -- What is made of the entries that were read.
 use Rattle.std.specs.Prelude.{◌≡◌, List, map}
-use Rattle.call_tables.specs.declared.arch.Arch.{Arch}
-use Rattle.call_tables.specs.Arch.{family_of}
+use Rattle.machines.specs.declared.arch.Arch.{Arch}
+use Rattle.machines.specs.Arch.{family_of}
 use Rattle.profile.specs.declared.rules.Rule.{Rule}
 use Rattle.profile.specs.Machines.{in_order}
 use Rattle.profile.specs.Policy.{Policy}

@@ -5,10 +5,10 @@ use Rattle.std.specs.Option.{ok_or}
 use Rattle.std.specs.List.{list_any}
 use Rattle.std.specs.Str.{bytes_eq}
 use Rattle.serde_json.specs.Data.{Data}
-use Rattle.call_tables.specs.declared.arch.Arch.{Arch}
-use Rattle.call_tables.specs.declared.arch.Family.{Family}
-use Rattle.call_tables.specs.declared.arch.Family.TheVariants.{Chosen, Whole}
-use Rattle.call_tables.specs.Arch.{family_of}
+use Rattle.machines.specs.declared.arch.Arch.{Arch}
+use Rattle.machines.specs.declared.arch.Family.{Family}
+use Rattle.machines.specs.declared.arch.Family.TheVariants.{Chosen, Whole}
+use Rattle.machines.specs.Arch.{family_of}
 use Rattle.profile.specs.declared.conditions.Op.{Op}
 use Rattle.profile.specs.Operator.{mask_of}
 use Rattle.profile_json.specs.declared.action.Action.{Action}
@@ -20,7 +20,7 @@ use Rattle.profile_json.specs.Parts.{CondParts, EntryParts}
 use Rattle.profile_json.specs.Lookup.{Member, missing, other_type, holds, member, or_default, object, text, whole, list}
 use Rattle.profile_json.specs.Names.{editions, action_named, takes_data, verdict_of, filter_flags, op_named, arch_named, is_known}
 use Rattle.profile_json.specs.Names.{most_entries, most_names}
-use Rattle.call_tables.specs.Arch.{same_arch}
+use Rattle.machines.specs.Arch.{same_arch}
 use Rattle.profile_json.specs.Rules.{or_native}
 use Rattle.profile_json.specs.CallName.{short_name}
 use Rattle.profile_json.specs.inner.Outcome.{◌>>=◌}

@@ -2,8 +2,8 @@
 use Rattle.std.specs.Prelude.{ℕ, ◌≡◌, ◌≤◌, ◌<◌, ◌+◌, ◌*◌, ◌^◌, ◌⊎◌, List, [], ◌∷◌, length, Option, Some}
 use Rattle.std.specs.List.{All}
 use Rattle.bpf_insn.specs.declared.instruction.Insn.{Insn}
-use Rattle.call_tables.specs.declared.arch.Arch.{Arch}
-use Rattle.call_tables.specs.Arch.{token_of}
+use Rattle.machines.specs.declared.arch.Arch.{Arch}
+use Rattle.machines.specs.Arch.{token_of}
 use Rattle.profile.specs.Policy.{Policy}
 use Rattle.rule_compile.specs.declared.label.Target.{Target}
 use Rattle.rule_compile.specs.Shape.{IsPlain, call, tokens}

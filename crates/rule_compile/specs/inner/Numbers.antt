@@ -1,10 +1,10 @@
 -- The ranges of all call numbers of one machine.
 use Rattle.std.specs.Prelude.{ℕ, zero, suc, ◌≡◌, ◌≤◌, ◌<◌, ◌+◌, ◌-◌, ◌⊎◌, List, [], ◌∷◌, ◌++◌, length, slice_index_or}
 use Rattle.std.specs.List.{All, Any, Contains}
-use Rattle.call_tables.specs.declared.arch.Arch.{Arch}
-use Rattle.call_tables.specs.Arch.{token_of}
-use Rattle.call_tables.specs.declared.numbers.Numbers.{Numbers}
-use Rattle.call_tables.specs.Numbers.{HasCall, foreign_numbers, from_to}
+use Rattle.machines.specs.declared.arch.Arch.{Arch}
+use Rattle.machines.specs.Arch.{token_of}
+use Rattle.machines.specs.declared.numbers.Numbers.{Numbers}
+use Rattle.machines.specs.Numbers.{HasCall, foreign_numbers, from_to}
 use Rattle.profile.specs.Policy.{InOrder, Policy}
 use Rattle.profile.specs.Said.{said}
 use Rattle.profile.specs.declared.rules.Rule.{Rule}

@@ -6,9 +6,10 @@ use Rattle.std.specs.List.{slice_split}
 use Rattle.std.specs.Str.{bytes_eq}
 use Rattle.texts.specs.Numbers.{decimal_at, hexadecimal_at}
 use Rattle.texts.specs.Splits.{behind, split_at}
-use Rattle.call_tables.specs.declared.arch.Arch.{Arch}
-use Rattle.call_tables.specs.declared.arch.Family.{Family}
-use Rattle.call_tables.specs.Arch.{table_of, family_of, same_family, machine_called}
+use Rattle.machines.specs.declared.arch.Arch.{Arch}
+use Rattle.machines.specs.declared.arch.Family.{Family}
+use Rattle.machines.specs.Arch.{family_of, same_family, machine_called}
+use Rattle.call_tables.specs.Tables.{table_of}
 use Rattle.call_tables.specs.Table.{number_in}
 use Rattle.script.specs.Commands.{Command, Create, Start, Delete, State, Kill, Call}
 use Rattle.script.specs.Grammar.{colon}

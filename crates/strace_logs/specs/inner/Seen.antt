@@ -1,7 +1,7 @@
 -- Calls that logs show.
 use Rattle.std.specs.Prelude.{ℕ, ◌≡◌, List, Option}
 use Rattle.std.specs.List.{All}
-use Rattle.call_tables.specs.declared.arch.Arch.{Arch}
+use Rattle.machines.specs.declared.arch.Arch.{Arch}
 use Rattle.strace_logs.specs.declared.calls.Seen.{Seen}
 use Rattle.profile.specs.Policy.{Policy}
 use Rattle.strace_logs.specs.declared.lists.Runtime.{Runtime}

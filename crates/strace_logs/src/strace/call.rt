@@ -5,7 +5,7 @@ ghost use Rattle.strace_logs.specs.Line.{words_of_call};
 
 use crate::strace::arguments::written;
 use call_record::Record;
-use call_tables::Arch;
+use machines::Arch;
 
 /// A call that a line of a log tells.
 #[derive(Clone, Copy)]

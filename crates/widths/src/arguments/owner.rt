@@ -1,11 +1,12 @@
 //! How a call reads its arguments, by its token and number.
 ghost use Rattle.std.specs.Prelude.{◌≡◌, ◌<◌};
-ghost use Rattle.call_tables.specs.Numbers.{has_call};
+ghost use Rattle.machines.specs.Numbers.{has_call};
 ghost use Rattle.widths.specs.Reads as spec;
 
 use crate::arguments::reading::Reading;
 use crate::arguments::rows::of_name;
-use call_tables::{Arch, Family, is_narrow};
+use call_tables::call_name;
+use machines::{Arch, Family, is_narrow};
 
 // How many bits an argument of a machine of 32 bits has.
 const HALF: u32 = 32;
@@ -35,7 +36,7 @@ fn owner_of(token: u32, nr: u32) -> Option<Arch>
 fn on_machine(arch: Arch, nr: u32) -> Option<[Reading; 6]>
     ensures { result ≡ spec.on_machine arch nr }
 {
-    match arch.name(nr) {
+    match call_name(arch, nr) {
         Some(name) => of_name(arch, name),
         None => None,
     }

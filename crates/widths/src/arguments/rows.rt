@@ -8,7 +8,7 @@ use crate::linux_arguments::{
     AARCH64_CALLS, FIRST_CALLS, FOURTH_CALLS, PPC64LE_CALLS, S390X_CALLS, SECOND_CALLS,
     THIRD_CALLS, X32_CALLS, X86_CALLS,
 };
-use call_tables::Arch;
+use machines::Arch;
 
 #[tactic(auto, unfolding(crate::specs::Tables::first_rows))]
 fn first() -> &'static [(&'static str, [Reading; 6])]

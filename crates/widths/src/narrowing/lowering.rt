@@ -1,7 +1,7 @@
 //! Rules whose conditions compare with numbers that their arguments cannot have.
 ghost use Rattle.std.specs.Prelude.{◌≡◌, ◌↔◌, ◌<◌, ◌≤◌, true, IsTrue, IfOk, IfSome, None};
 ghost use Rattle.std.specs.List.{AllZip};
-ghost use Rattle.call_tables.specs.Arch.{token_of};
+ghost use Rattle.machines.specs.Arch.{token_of};
 ghost use Rattle.widths.specs.Lowered as spec;
 
 use crate::arguments::{is_all_read, read_bits};

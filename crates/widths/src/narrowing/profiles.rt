@@ -9,7 +9,7 @@ ghost use Rattle.widths.specs.inner.Sizes.{IsSize, cut_cause};
 use crate::narrowing::fault::CutError;
 use crate::narrowing::rules::narrowed_rules;
 use call_record::Word;
-use call_tables::Arch;
+use machines::Arch;
 use profile::{BuildError, Profile, Rule};
 use std::alloc::Global;
 

@@ -1,6 +1,6 @@
 use Rattle.std.proofs.Common.{List, ap, map, subst, ◌∙◌, ℕ}
 use Rattle.call_groups.specs.Groups.{now_of}
-use Rattle.call_tables.specs.declared.arch.Arch.{Arch}
+use Rattle.machines.specs.declared.arch.Arch.{Arch}
 use Rattle.allow_groups.specs.Allowed.{TellsLines}
 use Rattle.allow_groups.specs.Report.{report}
 use Rattle.allow_groups.proofs.grown.told_for.Goals as goal

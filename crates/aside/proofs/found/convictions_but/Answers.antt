@@ -6,7 +6,7 @@ use Rattle.aside.proofs.found.convictions_but.Goals as goal
 pub convictions_in-requires : goal.convictions_in-requires
 convictions_in-requires c = λ found e.
     let but = c.args.but.now in
-    convicted c.args.native c.args.bundle.now c.args.filter.now c.args.behind.now.rest.now c.args.behind.now.answered.items c.requires.0
+    convicted c.args.document.now.native c.args.document.now.bytes c.args.filter.now c.args.behind.now.rest.now c.args.behind.now.answered.items c.requires.0
     but.aside.items but.judged.whole but.judged.evidence c.requires.1 found (c.in-Ok.is ∙ ap judged_as e)
 
 pub returns-in-Ok : goal.returns-in-Ok

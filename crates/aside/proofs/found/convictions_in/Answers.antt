@@ -14,7 +14,7 @@ returns-in_ok-passed-in-Convicting c =
     (λ all are. inr (
       c.in-Convicting.found,
       c.in-Convicting.is,
-      subst (λ (passed : List Calls). AreFoundBehind c.args.native c.args.bundle.now c.args.filter.now passed false c.in-Convicting.found all.items)
+      subst (λ (passed : List Calls). AreFoundBehind c.args.document.now.native c.args.document.now.bytes c.args.filter.now passed false c.in-Convicting.found all.items)
           c.in_ok-passed-in-Convicting.ensures are,
     ))
     c.of_found.ensures

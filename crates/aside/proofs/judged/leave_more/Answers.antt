@@ -7,8 +7,8 @@ use Rattle.aside.proofs.judged.leave_more.Goals as goal
 
 pub returns : goal.returns
 returns c = λ leave left one.
-    let native = c.args.native in
-    let bundle = c.args.bundle.now in
+    let native = c.args.document.now.native in
+    let bundle = c.args.document.now.bytes in
     let filter = c.args.filter.now in
     let old : List Calls = c.args.aside.items in
     let new : List Calls = c.push.new.self.items in

@@ -1,7 +1,7 @@
 use Rattle.std.proofs.Common.{◌++◌, sym, ◌∙◌, ap}
 use Rattle.call_tables.specs.Table.{number_in}
 use Rattle.call_tables.specs.Rows.{column_of}
-use Rattle.call_tables.specs.Machines.{second_rows, third_rows, fourth_rows}
+use Rattle.call_tables.specs.Tables.{second_rows, third_rows, fourth_rows}
 use Rattle.call_tables.proofs.ColumnLaws.{number_first, number_second}
 use Rattle.call_tables.proofs.linux.number_from_second.Goals as goal
 

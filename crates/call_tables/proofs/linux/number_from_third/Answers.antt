@@ -1,7 +1,7 @@
 use Rattle.std.proofs.Common.{sym, ◌∙◌, ap}
 use Rattle.call_tables.specs.Table.{number_in}
 use Rattle.call_tables.specs.Rows.{column_of}
-use Rattle.call_tables.specs.Machines.{third_rows, fourth_rows}
+use Rattle.call_tables.specs.Tables.{third_rows, fourth_rows}
 use Rattle.call_tables.proofs.ColumnLaws.{number_first, number_second}
 use Rattle.call_tables.proofs.linux.number_from_third.Goals as goal
 

@@ -1,5 +1,5 @@
 use Rattle.std.proofs.Common.{◌≡◌, ℕ, arith, subst}
-use Rattle.call_tables.specs.Arch.{table_of}
+use Rattle.call_tables.specs.Tables.{table_of}
 use Rattle.call_tables.specs.Table.{name_in}
 use Rattle.call_words.specs.Near.{IsLeast}
 use Rattle.call_words.specs.Wrong.{native_numbers}

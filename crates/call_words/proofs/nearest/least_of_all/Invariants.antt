@@ -1,4 +1,4 @@
-use Rattle.call_tables.specs.Arch.{table_of}
+use Rattle.call_tables.specs.Tables.{table_of}
 use Rattle.call_tables.specs.Table.{name_in}
 use Rattle.call_words.specs.Near as spec
 use Rattle.call_words.proofs.nearest.least_of_all.Given as goal

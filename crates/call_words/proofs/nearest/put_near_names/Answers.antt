@@ -1,5 +1,5 @@
 use Rattle.std.proofs.Common.{string_bytes}
-use Rattle.call_tables.specs.Arch.{table_of}
+use Rattle.call_tables.specs.Tables.{table_of}
 use Rattle.call_tables.specs.Table.{name_in}
 use Rattle.call_words.proofs.NearLaws.{names_start, names_step}
 use Rattle.call_words.proofs.nearest.put_near_names.Goals as goal

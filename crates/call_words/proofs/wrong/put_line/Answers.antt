@@ -1,5 +1,6 @@
 use Rattle.std.proofs.Common.{string_bytes}
-use Rattle.call_tables.specs.Arch.{machine_name, table_of}
+use Rattle.machines.specs.Arch.{machine_name}
+use Rattle.call_tables.specs.Tables.{table_of}
 use Rattle.call_tables.specs.Table.{name_in}
 use Rattle.call_words.specs.Near.{hint}
 use Rattle.call_words.specs.Wrong.{is_no_call, native_numbers}

@@ -1,8 +1,8 @@
 use Rattle.std.proofs.Common.{◌≡◌, ℕ, ◌<◌, List, length, true, false, refl, sym, subst, arith}
 use Rattle.std.specs.Prelude.{slice_index_or, Any}
 use Rattle.std.proofs.lemmas.List.{get_or_default}
-use Rattle.call_tables.specs.declared.arch.Arch.{Arch}
-use Rattle.call_tables.specs.Arch.{token_of}
+use Rattle.machines.specs.declared.arch.Arch.{Arch}
+use Rattle.machines.specs.Arch.{token_of}
 use Rattle.cert_state.specs.declared.literal.Lit.TheVariants.{Bits}
 use Rattle.cert_state.specs.Literals.{all_bits}
 use Rattle.cert_state.specs.Entailment.{Entails}

@@ -1,5 +1,5 @@
 use Rattle.std.proofs.Common.{◌≡◌, true, false, length, refl, subst}
-use Rattle.call_tables.specs.Arch.{token_of}
+use Rattle.machines.specs.Arch.{token_of}
 use Rattle.profile.specs.Latest.{IsLatest}
 use Rattle.cert_check.proofs.CallLaws.{earlier_for, goes_down, inside, stands_there}
 use Rattle.cert_check.proofs.SeveralLaws.{goes_on, has_begun, next_is_for, none_says}

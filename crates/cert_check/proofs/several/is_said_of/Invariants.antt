@@ -1,4 +1,4 @@
-use Rattle.call_tables.specs.Arch.{token_of}
+use Rattle.machines.specs.Arch.{token_of}
 use Rattle.cert_check.proofs.CallLaws.{IsInside, height}
 use Rattle.cert_check.proofs.SeveralLaws.{HasPassed}
 use Rattle.cert_check.proofs.several.is_said_of.Given as goal

@@ -1,6 +1,6 @@
 use Rattle.std.proofs.Common.{rules, ◌≡◌, List, None, subst, arith, inl}
 use Rattle.std.specs.Prelude.{MatchOption}
-use Rattle.call_tables.specs.declared.arch.Arch.{Arch}
+use Rattle.machines.specs.declared.arch.Arch.{Arch}
 use Rattle.cert_state.specs.declared.literal.Lit.{Lit}
 use Rattle.cert_state.specs.Points.{IsRange}
 use Rattle.cert_form.specs.Nodes.{literals}

@@ -1,7 +1,7 @@
 use Rattle.std.proofs.Common.{◌≡◌, List, true, false, sym, subst, ap, ◌∙◌, arith, inr, ⊎_elim}
 use Rattle.std.specs.Prelude.{Any}
-use Rattle.call_tables.specs.declared.arch.Arch.{Arch}
-use Rattle.call_tables.specs.Numbers.{foreign_numbers}
+use Rattle.machines.specs.declared.arch.Arch.{Arch}
+use Rattle.machines.specs.Numbers.{foreign_numbers}
 use Rattle.cert_state.specs.declared.literal.Lit.TheVariants.{In}
 use Rattle.certify.specs.inner.Apart.{IsMiddle}
 use Rattle.certify.specs.inner.Leaf.{BeginsWithin}

@@ -1,7 +1,7 @@
 use Rattle.std.proofs.Common.{◌≡◌, ℕ, ◌<◌, List, length, true, false, sym, ◌∙◌, subst, arith}
 use Rattle.std.specs.Prelude.{slice_index_or, Any}
 use Rattle.std.proofs.lemmas.List.{get_or_default}
-use Rattle.call_tables.specs.declared.numbers.Numbers.{Numbers}
+use Rattle.machines.specs.declared.numbers.Numbers.{Numbers}
 use Rattle.cert_check.proofs.SoFar.{one_more_at}
 use Rattle.certify.specs.inner.Leaf.{BeginsWithin}
 use Rattle.certify.proofs.calls.middle.Goals as goal

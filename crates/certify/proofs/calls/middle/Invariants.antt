@@ -1,6 +1,6 @@
 use Rattle.std.proofs.Common.{ℕ, ◌<◌}
 use Rattle.std.specs.Prelude.{slice_index_or}
-use Rattle.call_tables.specs.declared.numbers.Numbers.{Numbers}
+use Rattle.machines.specs.declared.numbers.Numbers.{Numbers}
 use Rattle.certify.specs.inner.Leaf.{BeginsWithin}
 use Rattle.certify.proofs.calls.middle.Given as goal
 

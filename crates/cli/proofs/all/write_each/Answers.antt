@@ -7,24 +7,24 @@ use Rattle.cli.proofs.all.write_each.Goals as goal
 
 pub returns-in-Err-write_convictions-clause-told : goal.returns-in-Err-write_convictions-clause-told
 returns-in-Err-write_convictions-clause-told g c =
-    let all = subst (λ (all : List Conviction). AreFound c.args.native c.args.bundle.now c.args.filter.now c.args.found.now all)
+    let all = subst (λ (all : List Conviction). AreFound c.args.document.now.native c.args.document.now.bytes c.args.filter.now c.args.found.now all)
     (sym c.deref.ensures.value) c.in-Ok.ensures in
-    tells_found g.O.Sink.held g.O.Sink.failures c.args.out.now c.write_convictions.new.sink c.args.native c.args.bundle.now
+    tells_found g.O.Sink.held g.O.Sink.failures c.args.out.now c.write_convictions.new.sink c.args.document.now.native c.args.document.now.bytes
     c.args.filter.now c.args.found.now c.deref.result.now all c.write_convictions.result (Err c.in-Err-write_convictions.fault)
     c.in-Err-write_convictions.is c.write_convictions.ensures
 
 pub returns-in-Ok-true-clause-told : goal.returns-in-Ok-true-clause-told
 returns-in-Ok-true-clause-told g c =
-    let all = subst (λ (all : List Conviction). AreFound c.args.native c.args.bundle.now c.args.filter.now c.args.found.now all)
+    let all = subst (λ (all : List Conviction). AreFound c.args.document.now.native c.args.document.now.bytes c.args.filter.now c.args.found.now all)
     (sym c.deref.ensures.value) c.in-Ok.ensures in
-    tells_found g.O.Sink.held g.O.Sink.failures c.args.out.now c.write_convictions.new.sink c.args.native c.args.bundle.now
+    tells_found g.O.Sink.held g.O.Sink.failures c.args.out.now c.write_convictions.new.sink c.args.document.now.native c.args.document.now.bytes
     c.args.filter.now c.args.found.now c.deref.result.now all c.write_convictions.result (Ok true) (c.in-Ok-true.is ∙ ap Ok c.in-Ok-true.field-0-test)
     c.write_convictions.ensures
 
 pub returns-clause-told : goal.returns-clause-told
 returns-clause-told g c =
-    let all = subst (λ (all : List Conviction). AreFound c.args.native c.args.bundle.now c.args.filter.now c.args.found.now all)
+    let all = subst (λ (all : List Conviction). AreFound c.args.document.now.native c.args.document.now.bytes c.args.filter.now c.args.found.now all)
     (sym c.deref.ensures.value) c.in-Ok.ensures in
-    tells_found g.O.Sink.held g.O.Sink.failures c.args.out.now c.write_convictions.new.sink c.args.native c.args.bundle.now
+    tells_found g.O.Sink.held g.O.Sink.failures c.args.out.now c.write_convictions.new.sink c.args.document.now.native c.args.document.now.bytes
     c.args.filter.now c.args.found.now c.deref.result.now all c.write_convictions.result (Ok false) (c.in-Ok-false.is ∙ ap Ok c.in-Ok-false.field-0-test)
     c.write_convictions.ensures

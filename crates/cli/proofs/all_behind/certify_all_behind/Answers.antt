@@ -1,50 +1,50 @@
 use Rattle.std.proofs.Common.{◌∙◌, ap, refl, subst, sym}
 use Rattle.std.specs.Prelude.{Err, Ok}
 use Rattle.std.proofs.lemmas.Result.{err_from_is_err_and}
-use Rattle.cli.specs.Files.{HasBundle, HasEnoughFilter}
+use Rattle.cli.specs.Files.{HasEnoughFilter}
 use Rattle.cli.proofs.DispatchLaws.{all_behind_done, all_behind_first, all_behind_second, all_behind_told}
 use Rattle.cli.proofs.all_behind.certify_all_behind.Goals as goal
 
-pub returns-in_err-bundle-clause-answers : goal.returns-in_err-bundle-clause-answers
-returns-in_err-bundle-clause-answers g c =
+pub returns-in_err-document-clause-answers : goal.returns-in_err-document-clause-answers
+returns-in_err-document-clause-answers g c =
     let told = err_from_is_err_and c.from_residual.result c.from_residual.ensures.1 in
     all_behind_first g.O.Sink.held g.O.Sink.failures (g.F.Files.folder c.args.files.now) c.args.out.now c.args.native c.args.bundle.now
-    c.args.filter.now c.in_err-bundle.field-0.0 c.from_residual.result c.in_err-bundle.ensures.err (told.1 ∙ ap Err told.2)
+    c.args.filter.now c.in_err-document.field-0.0 c.from_residual.result c.in_err-document.ensures.err (told.1 ∙ ap Err told.2)
 
 pub returns-in_err-filter-clause-answers : goal.returns-in_err-filter-clause-answers
 returns-in_err-filter-clause-answers g c =
     let told = err_from_is_err_and c.from_residual-in_err-filter.result c.from_residual-in_err-filter.ensures.1 in
     all_behind_second g.O.Sink.held g.O.Sink.failures (g.F.Files.folder c.args.files.now) c.args.out.now c.args.native c.args.bundle.now
-    c.args.filter.now c.in_ok-bundle.bundle.items c.in_ok-bundle.ensures.ok (g.F.Files.folder c.read_bundle.new.files) c.in_ok-bundle.ensures.same
+    c.args.filter.now c.in_ok-document.document.bytes c.in_ok-document.ensures.ok.has (g.F.Files.folder c.read_document.new.files) c.in_ok-document.ensures.same
     c.in_err-filter.field-0.0 c.from_residual-in_err-filter.result c.in_err-filter.ensures.err (told.1 ∙ ap Err told.2)
 
 pub returns-in_err-judge-clause-answers : goal.returns-in_err-judge-clause-answers
 returns-in_err-judge-clause-answers g c =
     let told = err_from_is_err_and c.from_residual-in_err-judge.result c.from_residual-in_err-judge.ensures.1 in
     all_behind_done g.O.Sink.held g.O.Sink.failures (g.F.Files.folder c.args.files.now) c.args.out.now c.args.native c.args.bundle.now
-    c.args.filter.now c.deref.result.now
-    (subst (λ b. HasBundle c.args.native (g.F.Files.folder c.args.files.now) c.args.bundle.now b) (sym c.deref.ensures.value) c.in_ok-bundle.ensures.ok)
-    (g.F.Files.folder c.read_bundle.new.files) c.in_ok-bundle.ensures.same c.deref-2.result.now
-    (subst (λ b. HasEnoughFilter c.args.native (g.F.Files.folder c.read_bundle.new.files) c.args.filter.now b) (sym c.deref-2.ensures.value)
+    c.args.filter.now c.in_ok-document.document.bytes
+    c.in_ok-document.ensures.ok.has
+    (g.F.Files.folder c.read_document.new.files) c.in_ok-document.ensures.same c.deref.result.now
+    (subst (λ b. HasEnoughFilter c.args.native (g.F.Files.folder c.read_document.new.files) c.args.filter.now b) (sym c.deref.ensures.value)
     c.in_ok-filter.ensures.ok)
-    c.judge.new.out (Err c.in_err-judge.field-0.0) c.from_residual-in_err-judge.result c.in_err-judge.ensures.written (told.1 ∙ ap Err told.2)
+    c.judge.new.out (Err c.in_err-judge.field-0.0) c.from_residual-in_err-judge.result (rw c.in_ok-document.ensures.ok.machine at c.in_err-judge.ensures.written) (told.1 ∙ ap Err told.2)
 
 pub returns-clause-answers : goal.returns-clause-answers
 returns-clause-answers g c =
     all_behind_done g.O.Sink.held g.O.Sink.failures (g.F.Files.folder c.args.files.now) c.args.out.now c.args.native c.args.bundle.now
-    c.args.filter.now c.deref.result.now
-    (subst (λ b. HasBundle c.args.native (g.F.Files.folder c.args.files.now) c.args.bundle.now b) (sym c.deref.ensures.value) c.in_ok-bundle.ensures.ok)
-    (g.F.Files.folder c.read_bundle.new.files) c.in_ok-bundle.ensures.same c.deref-2.result.now
-    (subst (λ b. HasEnoughFilter c.args.native (g.F.Files.folder c.read_bundle.new.files) c.args.filter.now b) (sym c.deref-2.ensures.value)
+    c.args.filter.now c.in_ok-document.document.bytes
+    c.in_ok-document.ensures.ok.has
+    (g.F.Files.folder c.read_document.new.files) c.in_ok-document.ensures.same c.deref.result.now
+    (subst (λ b. HasEnoughFilter c.args.native (g.F.Files.folder c.read_document.new.files) c.args.filter.now b) (sym c.deref.ensures.value)
     c.in_ok-filter.ensures.ok)
-    c.judge.new.out (Ok c.in_ok-judge.field-0) (Ok c.in_ok-judge.field-0) c.in_ok-judge.ensures.written refl
+    c.judge.new.out (Ok c.in_ok-judge.field-0) (Ok c.in_ok-judge.field-0) (rw c.in_ok-document.ensures.ok.machine at c.in_ok-judge.ensures.written) refl
 
 pub returns-clause-explained : goal.returns-clause-explained
 returns-clause-explained g c =
     all_behind_told g.O.Sink.held g.O.Sink.failures (g.F.Files.folder c.args.files.now) c.args.out.now c.args.native c.args.bundle.now
-    c.args.filter.now c.deref.result.now
-    (subst (λ b. HasBundle c.args.native (g.F.Files.folder c.args.files.now) c.args.bundle.now b) (sym c.deref.ensures.value) c.in_ok-bundle.ensures.ok)
-    (g.F.Files.folder c.read_bundle.new.files) c.in_ok-bundle.ensures.same c.deref-2.result.now
-    (subst (λ b. HasEnoughFilter c.args.native (g.F.Files.folder c.read_bundle.new.files) c.args.filter.now b) (sym c.deref-2.ensures.value)
+    c.args.filter.now c.in_ok-document.document.bytes
+    c.in_ok-document.ensures.ok.has
+    (g.F.Files.folder c.read_document.new.files) c.in_ok-document.ensures.same c.deref.result.now
+    (subst (λ b. HasEnoughFilter c.args.native (g.F.Files.folder c.read_document.new.files) c.args.filter.now b) (sym c.deref.ensures.value)
     c.in_ok-filter.ensures.ok)
-    g.E.Sink.held g.E.Sink.failures c.args.err.now c.judge.new.err c.judge.new.out c.in_ok-judge.field-0 c.in_ok-judge.ensures.told
+    g.E.Sink.held g.E.Sink.failures c.args.err.now c.judge.new.err c.judge.new.out c.in_ok-judge.field-0 (rw c.in_ok-document.ensures.ok.machine at c.in_ok-judge.ensures.told)

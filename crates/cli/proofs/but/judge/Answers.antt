@@ -25,11 +25,11 @@ returns-in-Err-write_found-clause-written g c =
     let answered = c.in-Ok.behind.answered.items in
     let Found : List Conviction → Type 0 =
     λ all. (all ≡ []) ⊎ ((found : Conviction)
-    × AreFoundBut c.args.native c.args.bundle.now c.args.filter.now (stub_calls but.judged.whole answered) but.aside.items found all) in
-    c.in-Err-write_found.ensures c.args.bundle.now c.args.filter.now c.in-Ok.behind.rest.now answered c.args.leave c.in-Ok.ensures
+    × AreFoundBut c.args.document.now.native c.args.document.now.bytes c.args.filter.now (stub_calls but.judged.whole answered) but.aside.items found all) in
+    (rw c.native-native.ensures at c.in-Err-write_found.ensures) c.args.document.now.bytes c.args.filter.now c.in-Ok.behind.rest.now answered c.args.leave c.in-Ok.ensures
     c.in-Ok-judge_but.ensures
     (subst Found (sym c.deref.ensures.value)
-    (found_only c.args.native c.args.bundle.now c.args.filter.now (stub_calls but.judged.whole answered) but.aside.items
+    (found_only c.args.document.now.native c.args.document.now.bytes c.args.filter.now (stub_calls but.judged.whole answered) but.aside.items
     (λ found. but.judged.evidence ≡ Ok (Convicting found)) c.in-Ok-all_of.all.items c.in-Ok-all_of.ensures))
 
 pub returns-then-is_quiet-clause-written : goal.returns-then-is_quiet-clause-written
@@ -38,11 +38,11 @@ returns-then-is_quiet-clause-written g c =
     let answered = c.in-Ok.behind.answered.items in
     let Found : List Conviction → Type 0 =
     λ all. (all ≡ []) ⊎ ((found : Conviction)
-    × AreFoundBut c.args.native c.args.bundle.now c.args.filter.now (stub_calls but.judged.whole answered) but.aside.items found all) in
-    c.in-Ok-write_found.ensures c.args.bundle.now c.args.filter.now c.in-Ok.behind.rest.now answered c.args.leave c.in-Ok.ensures
+    × AreFoundBut c.args.document.now.native c.args.document.now.bytes c.args.filter.now (stub_calls but.judged.whole answered) but.aside.items found all) in
+    (rw c.native-native.ensures at c.in-Ok-write_found.ensures) c.args.document.now.bytes c.args.filter.now c.in-Ok.behind.rest.now answered c.args.leave c.in-Ok.ensures
     c.in-Ok-judge_but.ensures
     (subst Found (sym c.deref.ensures.value)
-    (found_only c.args.native c.args.bundle.now c.args.filter.now (stub_calls but.judged.whole answered) but.aside.items
+    (found_only c.args.document.now.native c.args.document.now.bytes c.args.filter.now (stub_calls but.judged.whole answered) but.aside.items
     (λ found. but.judged.evidence ≡ Ok (Convicting found)) c.in-Ok-all_of.all.items c.in-Ok-all_of.ensures))
 
 pub returns-clause-written : goal.returns-clause-written
@@ -51,9 +51,9 @@ returns-clause-written g c =
     let answered = c.in-Ok.behind.answered.items in
     let Found : List Conviction → Type 0 =
     λ all. (all ≡ []) ⊎ ((found : Conviction)
-    × AreFoundBut c.args.native c.args.bundle.now c.args.filter.now (stub_calls but.judged.whole answered) but.aside.items found all) in
-    c.in-Ok-write_found.ensures c.args.bundle.now c.args.filter.now c.in-Ok.behind.rest.now answered c.args.leave c.in-Ok.ensures
+    × AreFoundBut c.args.document.now.native c.args.document.now.bytes c.args.filter.now (stub_calls but.judged.whole answered) but.aside.items found all) in
+    (rw c.native-native.ensures at c.in-Ok-write_found.ensures) c.args.document.now.bytes c.args.filter.now c.in-Ok.behind.rest.now answered c.args.leave c.in-Ok.ensures
     c.in-Ok-judge_but.ensures
     (subst Found (sym c.deref.ensures.value)
-    (found_only c.args.native c.args.bundle.now c.args.filter.now (stub_calls but.judged.whole answered) but.aside.items
+    (found_only c.args.document.now.native c.args.document.now.bytes c.args.filter.now (stub_calls but.judged.whole answered) but.aside.items
     (λ found. but.judged.evidence ≡ Ok (Convicting found)) c.in-Ok-all_of.all.items c.in-Ok-all_of.ensures))

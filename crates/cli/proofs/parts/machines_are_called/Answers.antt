@@ -1,5 +1,5 @@
 use Rattle.std.proofs.Common.{refl}
-use Rattle.call_tables.specs.Arch.{native_called}
+use Rattle.machines.specs.Arch.{native_called}
 use Rattle.cli.proofs.parts.machines_are_called.Goals as goal
 
 pub returns : goal.returns

@@ -4,7 +4,7 @@ use Rattle.cli.specs.Paged.{side_of}
 use Rattle.cli.proofs.reviewing.page_of_both.Goals as goal
 
 pub returns : goal.returns
-returns c =
+returns c = λ one_machine.
     let old = c.args.old.now in
     let new = c.args.new.now in
     let old_graph = c.in_ok-old_graph.old_graph in
@@ -15,11 +15,11 @@ returns c =
     let second = read c.side_of-new_side.result in
     record {
       compared = c.in_ok-compared.compared;
-      is_compared = c.in_ok-compared.ensures;
+      is_compared = c.in_ok-compared.ensures one_machine;
       old_graph = old_graph;
-      old_drawn = c.in_ok-old_graph.ensures;
+      old_drawn = rw c.native-native.ensures at (rw c.bytes.ensures at c.in_ok-old_graph.ensures);
       new_graph = new_graph;
-      new_drawn = c.in_ok-new_graph.ensures;
+      new_drawn = rw c.native-native.ensures at (rw c.bytes-2.ensures at c.in_ok-new_graph.ensures);
       text = record {
         bytes = c.in_ok-bytes.ensures
             ∙ ap (λ (side : Side). page_of_two side second told) c.side_of-old_side.ensures

@@ -1,13 +1,9 @@
-use Rattle.std.proofs.Common.{ℕ, List, subst, sym}
 use Rattle.std.specs.Prelude.{Ok}
-use Rattle.cli.specs.Files.{HasBundle}
 use Rattle.cli.specs.Read.{TellsRead}
-use Rattle.cli.proofs.BundleLaws.{told_bundle}
+use Rattle.cli.proofs.BundleLaws.{told_document}
 use Rattle.cli.proofs.showing.read_out.Goals as goal
 
 pub returns-in-Ok-described : goal.returns-in-Ok-described
 returns-in-Ok-described g c =
-    told_bundle c.args.native (g.F.Files.folder c.args.files.now) c.args.bundle.now c.deref.result.now (TellsRead c.args.native)
-    (subst (λ (b : List ℕ). HasBundle c.args.native (g.F.Files.folder c.args.files.now) c.args.bundle.now b) (sym c.deref.ensures.value)
-    c.in-Ok.ensures.ok)
+    told_document c.args.native (g.F.Files.folder c.args.files.now) c.args.bundle.now c.in-Ok.document TellsRead c.in-Ok.ensures.ok
     (Ok c.in-Ok-described.told) c.in-Ok-described.ensures

@@ -1,17 +1,23 @@
+use Rattle.std.proofs.Common.{ℕ, List, subst}
+use Rattle.machines.specs.declared.arch.Arch.{Arch}
 use Rattle.wording.proofs.Results.{if_ok_weaker}
+use Rattle.show.specs.Unread.{RefusesUnread}
 use Rattle.cli.specs.Read.{HasNames, TellsLinted}
 use Rattle.cli.proofs.telling.linted_text.Goals as goal
 
 pub returns : goal.returns
 returns c =
-    let native = c.args.native in
-    let bundle = c.args.bundle.now in
-    if_ok_weaker (HasNames native bundle c.in_ok-told.told) (TellsLinted native bundle)
+    let native = c.args.document.now.native in
+    let bundle = c.args.document.now.bytes in
+    let found = c.in_ok-found.found in
+    let inner = c.in_ok-told.told in
+    if_ok_weaker (HasNames native bundle inner) (TellsLinted native bundle)
     (λ told named. record {
-      found = c.in_ok-found.found;
+      found = found;
       is_linted = c.in_ok-found.ensures;
-      inner = c.in_ok-told.told;
-      unread = c.in_ok-told.ensures;
+      inner = inner;
+      unread = subst (λ (n : Arch). RefusesUnread n bundle found inner) c.native.ensures
+          (subst (λ (b : List ℕ). RefusesUnread c.native.result b found inner) c.bytes.ensures c.in_ok-told.ensures);
       named = named;
     })
     c.with_names.result c.with_names.ensures

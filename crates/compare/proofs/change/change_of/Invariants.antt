@@ -1,6 +1,6 @@
 -- Each of those so far is like the first one, and a difference where all are.
 use Rattle.std.specs.List.{All}
-use Rattle.call_tables.specs.declared.arch.Family.{Family}
+use Rattle.machines.specs.declared.arch.Family.{Family}
 use Rattle.profile.specs.Policy.{Policy}
 use Rattle.compare.specs.Difference.{IsDifference, IsLike}
 use Rattle.compare.proofs.change.change_of.Given as goal

@@ -1,7 +1,7 @@
 -- Each change so far is one, where all are differences, and what was looked at is told.
 use Rattle.std.proofs.Common.{◌≡◌, ℕ, true, take}
 use Rattle.std.specs.List.{All, list_any}
-use Rattle.call_tables.specs.declared.arch.Family.{Family}
+use Rattle.machines.specs.declared.arch.Family.{Family}
 use Rattle.profile.specs.Policy.{Policy}
 use Rattle.differ.specs.declared.direction.Direction.{Direction}
 use Rattle.compare.specs.Complete.{is_on, told_of}

@@ -1,8 +1,8 @@
 use Rattle.std.proofs.Common.{◌≡◌, true, sym, ◌∙◌, rules}
 use Rattle.std.specs.Cmp.Lexicographic.{pointwise_decides}
 use denote.Enum.Bare.{sameb, same_true, true_same}
-use Rattle.call_tables.specs.declared.arch.Arch.{Arch}
-use Rattle.call_tables.specs.contracts.arch.Arch as arch_contract
+use Rattle.machines.specs.declared.arch.Arch.{Arch}
+use Rattle.machines.specs.contracts.arch.Arch as arch_contract
 use Rattle.compare.proofs.equal.are_same_machines.Goals as goal
 
 arch_decides : (a b : Arch) → (sameb arch_contract.the_type a b ≡ true → a ≡ b) × (a ≡ b → sameb arch_contract.the_type a b ≡ true)

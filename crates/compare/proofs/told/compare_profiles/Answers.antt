@@ -1,6 +1,6 @@
 use Rattle.std.proofs.Common.{subst}
-use Rattle.call_tables.specs.declared.arch.Family.{Family}
-use Rattle.call_tables.specs.Arch.{family_of}
+use Rattle.machines.specs.declared.arch.Family.{Family}
+use Rattle.machines.specs.Arch.{family_of}
 use Rattle.compare.specs.Outcome.{IsComparison}
 use Rattle.compare.proofs.ToldLaws.{are_told}
 use Rattle.compare.proofs.told.compare_profiles.Goals as goal

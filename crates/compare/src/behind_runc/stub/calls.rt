@@ -4,7 +4,7 @@ ghost use Rattle.call_record.specs.Record.{words};
 ghost use Rattle.compare.specs.Stub.{IsAnswered};
 
 use call_record::Record;
-use call_tables::Numbers;
+use machines::Numbers;
 
 /// The calls of some numbers on the machine with a token.
 #[derive(Clone, Copy, Debug, PartialEq, Eq)]

@@ -2,11 +2,11 @@
 ghost use Rattle.std.specs.Prelude.{◌≡◌, ◌≤◌, ◌<◌, ℕ, MatchOption, min};
 ghost use Rattle.bpf_insn.specs.Machine.{holds};
 ghost use Rattle.bpf_insn.specs.declared.code.Test.TheVariants.{Equal, Greater, AtLeast, AnyBit};
-ghost use Rattle.call_tables.specs.Numbers.{IsWithin};
+ghost use Rattle.machines.specs.Numbers.{IsWithin};
 ghost use Rattle.compare.specs.inner.Path.{IsPart};
 
 use bpf_insn::Test;
-use call_tables::{LEAST_X32_NUMBER, Numbers};
+use machines::{LEAST_X32_NUMBER, Numbers};
 
 // Keeps no number above this one.
 fn cap(numbers: &mut Numbers, most: u32)

@@ -2,15 +2,15 @@
 ghost use Rattle.std.specs.Prelude.{◌≡◌, ◌<◌, ◌≤◌, ◌⊎◌, ◌↔◌, ℕ, List, IfOk, IfSome, true, false, length, drop};
 ghost use Rattle.bpf_insn.specs.Machine.{verdict_of};
 ghost use Rattle.call_record.specs.Words.{IsRecord, word};
-ghost use Rattle.call_tables.specs.Numbers.{IsWithin};
+ghost use Rattle.machines.specs.Numbers.{IsWithin};
 ghost use Rattle.kernel_check.specs.Lent.{accepted_insns};
 ghost use Rattle.compare.specs.inner.Parts.{IsAmong, SplitsBy};
 ghost use Rattle.compare.specs.inner.Path.{BeginsWithLoad, IsPart};
 
 use crate::behind_runc::stub::path::follow;
 use crate::behind_runc::stub::region::Region;
-use call_tables::Numbers;
 use kernel_check::Accepted;
+use machines::Numbers;
 use std::alloc::{AllocError, Global};
 
 // Numbers and those right behind them.

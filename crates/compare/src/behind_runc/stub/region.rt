@@ -1,6 +1,6 @@
 //! The records that take one path.
 
-use call_tables::Numbers;
+use machines::Numbers;
 
 /// The records of these numbers of calls and these tokens.
 #[derive(Clone, Copy, Debug)]

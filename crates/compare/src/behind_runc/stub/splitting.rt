@@ -1,7 +1,7 @@
 //! A stub told apart from the filter behind it.
 ghost use Rattle.std.specs.Prelude.{◌≡◌, ◌<◌, ◌≤◌, ◌⊎◌, ◌++◌, ◌*◌, [], ℕ, List, IfOk, IfSome, true, false, length, drop, map};
 ghost use Rattle.bpf_insn.specs.Program.{insns};
-ghost use Rattle.call_tables.specs.Numbers.{IsWithin};
+ghost use Rattle.machines.specs.Numbers.{IsWithin};
 ghost use Rattle.kernel_check.specs.Lent.{accepted_insns};
 ghost use Rattle.call_record.specs.Words.{IsRecord};
 ghost use Rattle.compare.specs.Stub.{IsStub};
@@ -11,8 +11,8 @@ ghost use Rattle.compare.specs.inner.Path.{BeginsWithLoad};
 use crate::behind_runc::stub::calls::Calls;
 use crate::behind_runc::stub::numbers::answered_numbers;
 use bpf_insn::{Insn, Operation, Program};
-use call_tables::Numbers;
 use kernel_check::{Accepted, accept};
+use machines::Numbers;
 use std::alloc::{AllocError, Global};
 
 /// The calls that a stub answers ENOSYS, and the filter behind it.

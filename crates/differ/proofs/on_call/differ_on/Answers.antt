@@ -1,16 +1,30 @@
-use Rattle.differ.proofs.OpenLaws.{open_first}
-use Rattle.differ.proofs.BranchLaws.{ok_weaker}
+use Rattle.std.proofs.Common.{◌≡◌, ℕ, List, Err, get_or, rules, refl, sym, ◌∙◌, subst}
+use Rattle.differ.specs.Left.{AreNeverUnlike, AreUnlikeAt}
+use Rattle.differ.proofs.FoundLaws.{never_like, unlike_not_like, unsettled_from}
 use Rattle.differ.proofs.WalkLaws.{none_weaker}
 use Rattle.differ.proofs.on_call.differ_on.Goals as goal
 
-pub walk-requires-clause-sample : goal.walk-requires-clause-sample
-walk-requires-clause-sample c = λ r of has.
-    open_first c.args.first.now c.args.second.now c.args.token c.args.nr c.in_ok-held.held r c.in_ok-held.ensures.first c.in_ok-held.ensures.second
+pub returns-in_err-unlike_at-clause-unsettled : goal.returns-in_err-unlike_at-clause-unsettled
+returns-in_err-unlike_at-clause-unsettled c =
+    let is : c.from_residual-in_err-unlike_at.result ≡ Err c.in_err-unlike_at.field-0.0 = search rules in
+    rw is
+    (unsettled_from c.args.first.now c.args.second.now c.args.token c.args.nr c.in_ok-memory.memory.limited c.in_err-unlike_at.field-0.0
+    c.in_ok-memory.ensures c.in_err-unlike_at.ensures.stopped)
+
+pub returns-in-None-clause-none : goal.returns-in-None-clause-none
+returns-in-None-clause-none c =
+    let never : AreNeverUnlike c.args.direction c.bits_of-bits.result 0 c.bits_of-bits.result c.in_ok-one.one c.in_ok-other.other =
+    rw c.in-None.is at c.in_ok-unlike_at.ensures.none in
+    never_like c.args.first.now c.args.second.now c.args.token c.args.nr c.args.direction c.in_ok-one.one c.in_ok-other.other c.bits_of-bits.result
+    c.rules.ensures.is_profile.clear c.rules-2.ensures.is_profile.clear c.bits_of-bits.ensures.is c.in_ok-one.ensures c.in_ok-other.ensures never
 
 pub returns-clause-none : goal.returns-clause-none
 returns-clause-none c =
-    let p = c.args.first.now in
-    let q = c.args.second.now in
-    let held = c.in_ok-held.held in
-    ok_weaker c.walk.result _ _ (λ found some. none_weaker found _ _ (λ like r of.
-    like r of (open_first p q c.args.token c.args.nr held r c.in_ok-held.ensures.first c.in_ok-held.ensures.second)) some) c.walk.ensures.none
+    let args : List ℕ = c.in-Some.args in
+    let found : AreUnlikeAt c.args.direction c.bits_of-bits.result 0 c.bits_of-bits.result c.in_ok-one.one c.in_ok-other.other (λ i. get_or args i 0) =
+    rw c.in-Some.is at c.in_ok-unlike_at.ensures.found in
+    none_weaker c.found_on.result _ _ (λ like. absurd (
+    unlike_not_like c.args.first.now c.args.second.now c.args.token c.args.nr c.args.direction c.in_ok-one.one c.in_ok-other.other c.bits_of-bits.result
+    c.record_of-call.result args c.rules.ensures.is_profile.clear c.rules-2.ensures.is_profile.clear c.bits_of-bits.ensures.is
+    c.in_ok-one.ensures c.in_ok-other.ensures c.record_of-call.ensures.arch c.record_of-call.ensures.nr c.record_of-call.ensures.args
+    c.words_are_a_record.ensures found like)) c.found_on.ensures.none

@@ -1,5 +1,5 @@
 use Rattle.std.proofs.Common.{◌≡◌, string_bytes}
-use Rattle.call_tables.specs.Arch.{family_of}
+use Rattle.machines.specs.Arch.{family_of}
 use Rattle.explain.specs.Refused.{no_record}
 use Rattle.explain.proofs.RefusedLaws.{no_reason, one_reason}
 use Rattle.explain.proofs.refused.put_why_no_record.Goals as goal

@@ -1,5 +1,5 @@
 use Rattle.std.proofs.Common.{[], string_bytes}
-use Rattle.call_tables.specs.Arch.{family_of}
+use Rattle.machines.specs.Arch.{family_of}
 use Rattle.call_words.specs.Wrong.{TellsWrongCall}
 use Rattle.explain.proofs.RefusedLaws.{no_reason, the_reason}
 use Rattle.explain.proofs.refused.put_why_not.Goals as goal

@@ -5,12 +5,12 @@ use Rattle.explain.proofs.told.explain.Goals as goal
 
 pub returns-in_default : goal.returns-in_default
 returns-in_default c =
-    nothing_asked c.args.native c.args.bundle.now c.args.arguments.now c.refused_call.result (c.in_ok-call.ensures.none c.in_default.is)
-    c.refused_call.ensures
+    nothing_asked c.args.document.now.native c.args.document.now.bytes c.args.arguments.now c.refused_call.result (rw c.native-native.ensures at (c.in_ok-call.ensures.none c.in_default.is))
+    (rw c.native-native.ensures at c.refused_call.ensures)
 
 pub returns-in-Ok : goal.returns-in-Ok
 returns-in-Ok c =
-    let call : IsCall c.args.native c.args.arguments.now c.in-Some.call = rw c.in-Some.is at c.in_ok-call.ensures.found in
+    let call : IsCall c.args.document.now.native c.args.arguments.now c.in-Some.call = rw c.native-native.ensures at (rw c.in-Some.is at c.in_ok-call.ensures.found) in
     inr (inr (record {
       call = c.in-Some.call;
       is_call = call;

@@ -1,4 +1,4 @@
-use Rattle.call_tables.specs.Arch.{token_of}
+use Rattle.machines.specs.Arch.{token_of}
 use Rattle.std.proofs.Common.{◌≡◌, length}
 use Rattle.profile.specs.declared.rules.Rule.{Rule}
 use Rattle.profile.proofs.Walks.{HasCome, height}

@@ -1,16 +1,10 @@
-use Rattle.std.proofs.Common.{arith, map}
-use Rattle.profile_json.specs.inner.Reading.{name_of}
-use Rattle.profile_json.proofs.reading.EachSteps.{each_step, each_done, seen_push}
+use Rattle.std.proofs.Common.{map}
+use Rattle.serde_json.specs.View.{view}
+use Rattle.profile_json.specs.Fault.{fault_of}
+use Rattle.profile_json.proofs.reading.PlaceLaws.{value_at, name_at}
 use Rattle.profile_json.proofs.syscalls.names_in.Goals as goal
 
-pub loop-value-preserved : goal.loop-value-preserved
-loop-value-preserved c =
-    let pushed = c.in_ok-push.ensures.items in
-    each_step (name_of c.args.family) (map (λ n. n.now) c.loop-value.found.items) c.in_ok-name.name.now
-    (map (λ n. n.now) c.push.new.self.items) c.args.values.now c.loop-value.value-index c.value-item.result _ c.loop-value-test.true c.value-item.is
-    (seen_push (λ n. n.now) c.loop-value.found.items c.in_ok-name.name c.push.new.self.items pushed) c.in_ok-name.ensures c.loop-value.invariant
-
-pub returns : goal.returns
-returns c =
-    let all = c.loop-value-test.false in
-    each_done (name_of c.args.family) (map (λ n. n.now) c.loop-value.found.items) c.args.values.now c.loop-value.value-index _ (omega (arith, all)) c.loop-value.invariant
+pub returns-in-Err-clause-err : goal.returns-in-Err-clause-err
+returns-in-Err-clause-err c =
+    name_at c.args.family (map view c.args.values.now) c.loop-at.at (view c.index-values-at.result) (fault_of c.in-Err.error)
+    (value_at c.args.values.now c.loop-at.at c.index-values-at.result c.loop-at-test.true c.index-values-at.is) c.in-Err.ensures

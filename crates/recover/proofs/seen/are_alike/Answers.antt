@@ -1,6 +1,6 @@
 use Rattle.std.proofs.Common.{arith}
 use Rattle.std.proofs.lemmas.Bool.{eqb-true}
-use Rattle.call_tables.specs.Width.{compared}
+use Rattle.machines.specs.Width.{compared}
 use Rattle.recover.proofs.AlikeLaws.{maps_same}
 use Rattle.recover.proofs.seen.are_alike.Goals as goal
 

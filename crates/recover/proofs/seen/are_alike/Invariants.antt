@@ -1,5 +1,5 @@
 use Rattle.std.proofs.Common.{◌≡◌, ◌<◌, ℕ, get_or}
-use Rattle.call_tables.specs.Width.{compared}
+use Rattle.machines.specs.Width.{compared}
 use Rattle.recover.proofs.seen.are_alike.Given as goal
 
 abbrev pub invariant-loop-index : goal.invariant-loop-index

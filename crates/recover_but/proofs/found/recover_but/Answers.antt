@@ -1,19 +1,24 @@
-use Rattle.std.proofs.Common.{ℕ, List, subst}
+use Rattle.std.proofs.Common.{ℕ, List, subst, ◌∙◌}
 use Rattle.std.specs.String.{string_bytes}
 use Rattle.std.proofs.lemmas.Result.{err_from_is_err_and}
+use Rattle.machines.specs.declared.arch.Arch.{Arch}
 use Rattle.aside.specs.Judged.{IsJudged}
 use Rattle.recover_but.proofs.RecoveredLaws.{recovered_by}
 use Rattle.recover_but.proofs.found.recover_but.Goals as goal
 
 pub returns-clause-recovered : goal.returns-clause-recovered
 returns-clause-recovered c =
-    let but = c.in-Ok.but in
-    recovered_by c.args.native (string_bytes c.in_ok-bundle.bundle) c.args.filter.now c.args.behind.now.rest.now
-    c.args.behind.now.answered.items c.requires c.args.leave
+    let but = c.in-Ok-judge_but.but in
+    let filter = c.args.filter.now in
+    let rest = c.args.behind.now.rest.now in
+    let answered = c.args.behind.now.answered.items in
+    recovered_by c.args.native (string_bytes c.in_ok-bundle.bundle) filter rest answered c.requires c.args.leave
     (record { program = c.in_ok-bundle.ensures.program; accepted = c.in_ok-bundle.ensures.accepted })
     but.aside.items but.judged.whole but.judged.evidence c.in_ok-be_right.ensures.right
-    (subst (λ (b : List ℕ). IsJudged c.args.native b c.args.filter.now c.args.behind.now.rest.now c.args.behind.now.answered.items
-    c.args.leave but.aside.items but.judged.whole but.judged.evidence) c.as_bytes.ensures.value c.in-Ok.ensures)
+    (subst (λ (b : List ℕ). IsJudged c.args.native b filter rest answered c.args.leave but.aside.items but.judged.whole but.judged.evidence)
+    (c.new-document.ensures.bytes ∙ c.in-Ok.ensures.items ∙ c.as_bytes.ensures.value)
+    (subst (λ (n : Arch). IsJudged n c.new-document.result.bytes filter rest answered c.args.leave but.aside.items but.judged.whole but.judged.evidence)
+    c.new-document.ensures.native c.in-Ok-judge_but.ensures))
 
 pub returns-in_err-be_right-clause-reason : goal.returns-in_err-be_right-clause-reason
 returns-in_err-be_right-clause-reason c =

@@ -1,6 +1,6 @@
 use Rattle.std.proofs.Common.{◌-◌, length}
 use Rattle.std.specs.String.{string_bytes}
-use Rattle.call_tables.specs.Arch.{family_of}
+use Rattle.machines.specs.Arch.{family_of}
 use Rattle.recover_but.proofs.RecoveredLaws.{lines_told}
 use Rattle.recover_but.proofs.told.recover_told.Goals as goal
 

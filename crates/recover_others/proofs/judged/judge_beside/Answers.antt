@@ -1,5 +1,5 @@
 use Rattle.std.proofs.Common.{List, ℕ, subst}
-use Rattle.call_tables.specs.declared.arch.Arch.{Arch}
+use Rattle.machines.specs.declared.arch.Arch.{Arch}
 use Rattle.bpf_insn.specs.Bytes.{insns_of}
 use Rattle.maker.specs.Certified.{IsJudgement}
 use Rattle.other_calls.specs.Guarded.{IsGuarded}

@@ -1,5 +1,5 @@
 use Rattle.std.proofs.Common.{List, ap, subst, ◌∙◌}
-use Rattle.call_tables.specs.declared.arch.Arch.{Arch}
+use Rattle.machines.specs.declared.arch.Arch.{Arch}
 use Rattle.review.specs.Asked.{asked_by}
 use Rattle.review.specs.Judged.{AreJudged}
 use Rattle.review.specs.Systemd.{standing_of}

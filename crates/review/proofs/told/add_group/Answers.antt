@@ -1,6 +1,6 @@
 use Rattle.std.proofs.Common.{List, ◌∙◌, ◌++◌, ap, subst}
 use Rattle.std.specs.Prelude.{string_bytes}
-use Rattle.call_tables.specs.declared.arch.Arch.{Arch}
+use Rattle.machines.specs.declared.arch.Arch.{Arch}
 use Rattle.review.specs.Asked.{asked_of}
 use Rattle.review.specs.Judged.{AreJudged}
 use Rattle.review.specs.Told.{group_text}

@@ -1,7 +1,7 @@
 use Rattle.std.proofs.Common.{List, ◌∙◌, ◌++◌, ap, map, subst}
 use Rattle.std.specs.Prelude.{string_bytes}
 use Rattle.call_groups.specs.Groups.{Text, now_of}
-use Rattle.call_tables.specs.declared.arch.Arch.{Arch}
+use Rattle.machines.specs.declared.arch.Arch.{Arch}
 use Rattle.review.specs.Systemd.{AreStanding, members}
 use Rattle.review.specs.SystemdTold.{group_text}
 use Rattle.review.specs.declared.member.Member.{Member}

@@ -1,6 +1,6 @@
 use Rattle.std.proofs.Common.{◌≡◌, ◌-◌, ◌∙◌, List, ap, drop, false, length, subst, sym, take, true, vec_len}
 use Rattle.bpf_insn.specs.declared.code.Test.TheVariants.{Equal}
-use Rattle.call_tables.specs.declared.arch.Arch.{Arch}
+use Rattle.machines.specs.declared.arch.Arch.{Arch}
 use Rattle.rule_compile.specs.declared.label.Exits.{Exits}
 use Rattle.rule_compile.specs.declared.label.Target.TheVariants.{Place}
 use Rattle.rule_compile.specs.declared.blocks.Blocks.{Blocks}

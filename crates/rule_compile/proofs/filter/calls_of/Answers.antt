@@ -1,5 +1,5 @@
 use Rattle.std.proofs.Common.{◌≡◌, ◌∙◌, ◌^◌, ap, subst, sym, vec_len}
-use Rattle.call_tables.specs.Arch.{token_of}
+use Rattle.machines.specs.Arch.{token_of}
 use Rattle.rule_compile.specs.declared.blocks.Blocks.{Blocks}
 use Rattle.rule_compile.specs.Decides.{Tiles}
 use Rattle.rule_compile.specs.Shape.{IsPlain}

@@ -1,6 +1,6 @@
 use Rattle.std.proofs.Common.{◌≡◌, ℕ, List, IfOk, subst, Vec, Global}
 use Rattle.std.specs.Prelude.{Result, Ok, Err}
-use Rattle.call_tables.specs.declared.arch.Family.TheVariants.{Whole}
+use Rattle.machines.specs.declared.arch.Family.TheVariants.{Whole}
 use Rattle.section.specs.declared.kinds.Kind.{Kind}
 use Rattle.section.specs.Texts.{IsKind, IsTakenAs, bundle_of}
 use Rattle.section.proofs.reading.bundle_of.Goals as goal

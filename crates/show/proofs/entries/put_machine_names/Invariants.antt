@@ -2,7 +2,7 @@
 use Rattle.std.proofs.Common.{◌≡◌, ◌++◌, drop}
 use Rattle.std.specs.Prelude.{codes, string_bytes}
 use Rattle.std.specs.List.{flat_map}
-use Rattle.call_tables.specs.Arch.{machine_name}
+use Rattle.machines.specs.Arch.{machine_name}
 use Rattle.show.proofs.entries.put_machine_names.Given as goal
 
 abbrev pub invariant-loop-arch : goal.invariant-loop-arch

@@ -1,4 +1,4 @@
-use Rattle.std.proofs.Common.{◌≡◌, ◌++◌, ◌&&◌, ◌==◌, length, subst, sym}
+use Rattle.std.proofs.Common.{◌≡◌, ◌++◌, subst, sym}
 use Rattle.section.specs.Unread.{AreUnread}
 use Rattle.wording.specs.declared.told.Told.{Told}
 use Rattle.wording.proofs.Results.{if_ok_both}

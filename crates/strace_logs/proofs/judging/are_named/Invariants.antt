@@ -1,7 +1,7 @@
 -- The rules so far are named.
 use Rattle.std.proofs.Common.{ℕ, List, take}
 use Rattle.std.specs.List.{All}
-use Rattle.call_tables.specs.declared.arch.Arch.{Arch}
+use Rattle.machines.specs.declared.arch.Arch.{Arch}
 use Rattle.strace_logs.specs.inner.Seen.{AreSeen}
 use Rattle.strace_logs.specs.Learned.{IsNamed}
 use Rattle.strace_logs.proofs.judging.are_named.Given as goal

@@ -1,5 +1,5 @@
 use Rattle.std.proofs.Common.{List, ap, ◌∙◌, subst}
-use Rattle.call_tables.specs.Machines.{aarch64_token, arm_token, loongarch64_token, ppc64le_token, riscv64_token, s390_token, s390x_token, x86_64_token, x86_token}
+use Rattle.machines.specs.Machines.{aarch64_token, arm_token, loongarch64_token, ppc64le_token, riscv64_token, s390_token, s390x_token, x86_64_token, x86_token}
 use Rattle.differ.specs.declared.named.Call.{Call}
 use Rattle.differ.specs.Named.{AreCovered, is_named}
 use Rattle.differ.proofs.BranchLaws.{ok_weaker}

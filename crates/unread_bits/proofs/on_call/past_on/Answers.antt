@@ -1,16 +1,32 @@
-use Rattle.differ.proofs.BranchLaws.{ok_weaker}
+use Rattle.std.proofs.Common.{◌≡◌, ℕ, List, Err, get_or, rules}
+use Rattle.differ.specs.Left.{AreNeverUnlike, AreUnlikeAt}
+use Rattle.differ.specs.declared.direction.Direction.TheVariants.{Less}
 use Rattle.differ.proofs.WalkLaws.{none_weaker}
-use Rattle.unread_bits.proofs.PairLaws.{open_start}
+use Rattle.unread_bits.proofs.PassingLaws.{never_past, past_not_kept, unsettled_from}
 use Rattle.unread_bits.proofs.on_call.past_on.Goals as goal
 
-pub walk-requires-clause-sample : goal.walk-requires-clause-sample
-walk-requires-clause-sample c = λ r s pair has.
-    open_start c.args.profile.now c.args.token c.args.nr c.in_ok-held.held r s c.in_ok-held.ensures.plain c.in_ok-held.ensures.cut
+pub returns-in_err-unlike_at-clause-unsettled : goal.returns-in_err-unlike_at-clause-unsettled
+returns-in_err-unlike_at-clause-unsettled c =
+    let is : c.from_residual-in_err-unlike_at.result ≡ Err c.in_err-unlike_at.field-0.0 = search rules in
+    rw is
+    (unsettled_from c.args.profile.now c.args.token c.args.nr c.in_ok-memory.memory.limited c.in_err-unlike_at.field-0.0
+    c.in_ok-memory.ensures c.in_err-unlike_at.ensures.stopped)
+
+pub returns-in-None-clause-none : goal.returns-in-None-clause-none
+returns-in-None-clause-none c =
+    let never : AreNeverUnlike Less c.bits_of-bits.result 0 c.bits_of-bits.result c.in_ok-one.one c.in_ok-other.other =
+    rw c.in-None.is at c.in_ok-unlike_at.ensures.none in
+    never_past c.args.profile.now c.args.token c.args.nr c.bits_of-bits.result c.in_ok-one.one c.in_ok-other.other c.all_bits-whole.result
+    c.reads_of-read.result c.rules.ensures.is_profile.clear c.bits_of-bits.ensures.is c.all_bits-whole.ensures c.reads_of-read.ensures
+    c.in_ok-one.ensures c.in_ok-other.ensures never
 
 pub returns-clause-none : goal.returns-clause-none
 returns-clause-none c =
-    let p = c.args.profile.now in
-    let held = c.in_ok-held.held in
-    ok_weaker c.walk.result _ _ (λ found some. none_weaker found _ _ (λ all r of s rec cleared.
-    all r s (record { of_call = of; is_record = rec; cleared = cleared })
-    (open_start p c.args.token c.args.nr held r s c.in_ok-held.ensures.plain c.in_ok-held.ensures.cut)) some) c.walk.ensures.none
+    let args : List ℕ = c.in-Some.args in
+    let found : AreUnlikeAt Less c.bits_of-bits.result 0 c.bits_of-bits.result c.in_ok-one.one c.in_ok-other.other (λ i. get_or args i 0) =
+    rw c.in-Some.is at c.in_ok-unlike_at.ensures.found in
+    none_weaker c.past_by.result _ _ (λ keeps. absurd (
+    past_not_kept c.args.profile.now c.args.token c.args.nr c.bits_of-bits.result c.in_ok-one.one c.in_ok-other.other c.all_bits-whole.result
+    c.reads_of-read.result c.record_of-call.result args c.rules.ensures.is_profile.clear c.bits_of-bits.ensures.is c.all_bits-whole.ensures
+    c.reads_of-read.ensures c.in_ok-one.ensures c.in_ok-other.ensures c.record_of-call.ensures.arch c.record_of-call.ensures.nr
+    c.record_of-call.ensures.args c.words_are_a_record.ensures found keeps)) c.past_by.ensures.none

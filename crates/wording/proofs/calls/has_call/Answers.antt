@@ -1,5 +1,5 @@
 use Rattle.std.proofs.Common.{◌↔◌, IsTrue, arith}
-use Rattle.call_tables.specs.Numbers.{HasCall, has_call}
+use Rattle.machines.specs.Numbers.{HasCall, has_call}
 use Rattle.profile.proofs.SaidLaws.{Decides-has_call}
 use Rattle.wording.proofs.Deciding.{same_answer}
 use Rattle.wording.proofs.calls.has_call.Goals as goal

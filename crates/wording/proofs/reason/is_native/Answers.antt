@@ -1,8 +1,8 @@
 use Rattle.std.proofs.Common.{◌↔◌, IsTrue, List, subst}
 use Rattle.std.specs.List.{Any}
 use Rattle.call_record.specs.Record.{words}
-use Rattle.call_tables.specs.declared.arch.Arch.{Arch}
-use Rattle.call_tables.specs.Numbers.{HasCall}
+use Rattle.machines.specs.declared.arch.Arch.{Arch}
+use Rattle.machines.specs.Numbers.{HasCall}
 use Rattle.profile.specs.Policy.{IsNative}
 use Rattle.profile.specs.Said as said
 use Rattle.profile.proofs.SaidLaws.{Decides-is_native}

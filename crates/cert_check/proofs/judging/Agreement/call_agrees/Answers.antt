@@ -1,6 +1,6 @@
 use Rattle.std.proofs.Common.{◌≡◌, ◌∙◌, true, false, length, refl, sym, subst, inl, inr, arith}
 use Rattle.std.proofs.lemmas.Bool.{eqb-true, eq-eqb}
-use Rattle.call_tables.specs.Arch.{token_of}
+use Rattle.machines.specs.Arch.{token_of}
 use Rattle.profile.specs.Latest.{IsLatest}
 use Rattle.cert_check.specs.inner.Asked.{known_of, met_of, out_of}
 use Rattle.cert_check.specs.Agree.{IsLeft}

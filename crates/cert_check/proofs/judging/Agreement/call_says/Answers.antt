@@ -1,5 +1,5 @@
 use Rattle.std.proofs.Common.{refl}
-use Rattle.call_tables.specs.Arch.{token_of}
+use Rattle.machines.specs.Arch.{token_of}
 use Rattle.cert_check.proofs.CallLaws.{goes_down, inside, stands_there}
 use Rattle.cert_check.proofs.judging.Agreement.call_says.Goals as goal
 

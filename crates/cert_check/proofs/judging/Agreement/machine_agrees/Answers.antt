@@ -1,6 +1,6 @@
 use Rattle.std.proofs.Common.{◌≡◌, true, false, List, refl, inl, inr, sym, ap, ◌∙◌, subst}
-use Rattle.call_tables.specs.declared.numbers.Numbers.{Numbers}
-use Rattle.call_tables.specs.Numbers.{foreign_numbers}
+use Rattle.machines.specs.declared.numbers.Numbers.{Numbers}
+use Rattle.machines.specs.Numbers.{foreign_numbers}
 use Rattle.cert_check.specs.inner.Asked.{known_of}
 use Rattle.cert_check.specs.Agree.{ForeignNumbersAgree, IsAmong}
 use Rattle.cert_check.proofs.judging.Agreement.machine_agrees.Goals as goal

@@ -1,6 +1,6 @@
 use Rattle.std.proofs.Common.{◌≡◌, ℕ, true, false, List, sym, subst, ap, ◌∙◌, inl, inr}
-use Rattle.call_tables.specs.declared.numbers.Numbers.{Numbers}
-use Rattle.call_tables.specs.Numbers.{foreign_numbers}
+use Rattle.machines.specs.declared.numbers.Numbers.{Numbers}
+use Rattle.machines.specs.Numbers.{foreign_numbers}
 use Rattle.cert_state.specs.declared.literal.Lit.TheVariants.{NotBits}
 use Rattle.cert_state.specs.Literals.{all_bits}
 use Rattle.cert_state.specs.Entailment.{Entails}

@@ -1,7 +1,7 @@
 use Rattle.std.proofs.Common.{◌≡◌, ℕ, ◌<◌, List, length, true, false, refl, sym, subst, arith}
 use Rattle.std.specs.Prelude.{slice_index_or, Any}
 use Rattle.std.proofs.lemmas.List.{get_or_default}
-use Rattle.call_tables.specs.declared.arch.Arch.{Arch}
+use Rattle.machines.specs.declared.arch.Arch.{Arch}
 use Rattle.cert_check.specs.Several.{SaysOfRange}
 use Rattle.cert_check.specs.inner.Asked.{known_of}
 use Rattle.cert_check.proofs.SoFar.{one_more_at}

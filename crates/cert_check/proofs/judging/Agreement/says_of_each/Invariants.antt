@@ -1,6 +1,6 @@
 use Rattle.std.proofs.Common.{ℕ, ◌<◌}
 use Rattle.std.specs.Prelude.{slice_index_or}
-use Rattle.call_tables.specs.declared.arch.Arch.{Arch}
+use Rattle.machines.specs.declared.arch.Arch.{Arch}
 use Rattle.cert_check.specs.Several.{SaysOfRange}
 use Rattle.cert_check.specs.inner.Asked.{known_of}
 use Rattle.cert_check.proofs.judging.Agreement.says_of_each.Given as goal

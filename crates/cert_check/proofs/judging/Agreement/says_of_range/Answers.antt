@@ -1,6 +1,6 @@
 use Rattle.std.proofs.Common.{◌≡◌, true, false, List, refl, sym, ap, ◌∙◌, subst, arith}
-use Rattle.call_tables.specs.declared.numbers.Numbers.{Numbers}
-use Rattle.call_tables.specs.Numbers.{foreign_numbers}
+use Rattle.machines.specs.declared.numbers.Numbers.{Numbers}
+use Rattle.machines.specs.Numbers.{foreign_numbers}
 use Rattle.cert_check.specs.Agree.{ForeignNumbersAgree}
 use Rattle.cert_check.specs.inner.Asked.{known_of}
 use Rattle.cert_check.proofs.SeveralLaws.{no_range}

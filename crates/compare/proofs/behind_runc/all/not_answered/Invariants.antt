@@ -1,6 +1,6 @@
 use Rattle.std.proofs.Common.{ℕ, List}
 use Rattle.std.specs.List.{All}
-use Rattle.call_tables.specs.declared.arch.Arch.{Arch}
+use Rattle.machines.specs.declared.arch.Arch.{Arch}
 use Rattle.compare.specs.Behind.{IsNotAnswered}
 use Rattle.compare.specs.Convictions.{AllConvict}
 use Rattle.compare.proofs.behind_runc.all.not_answered.Given as goal

@@ -9,8 +9,8 @@ use Rattle.compare.proofs.behind_runc.all.of_found.Goals as goal
 
 pub returns : goal.returns
 returns c =
-    let native = c.args.native in
-    let bundle = c.args.bundle.now in
+    let native = c.args.document.now.native in
+    let bundle = c.args.document.now.bytes in
     let filter = c.args.filter.now in
     record {
       are = record {

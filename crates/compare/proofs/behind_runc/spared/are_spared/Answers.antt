@@ -1,6 +1,6 @@
 use Rattle.std.proofs.Common.{◌⊎◌, All, Any, List, subst, sym}
-use Rattle.call_tables.specs.declared.arch.Arch.{Arch}
-use Rattle.call_tables.specs.Numbers.{HasCall}
+use Rattle.machines.specs.declared.arch.Arch.{Arch}
+use Rattle.machines.specs.Numbers.{HasCall}
 use Rattle.profile.specs.declared.rules.Rule.{Rule}
 use Rattle.compare.specs.Spared.{IsNoCall}
 use Rattle.compare.specs.inner.Spans.{AreBeyond}

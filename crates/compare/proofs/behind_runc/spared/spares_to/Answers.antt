@@ -1,5 +1,5 @@
 use Rattle.std.proofs.Common.{◌≤◌, All, List, arith, subst, sym}
-use Rattle.call_tables.specs.declared.numbers.Numbers.{Numbers}
+use Rattle.machines.specs.declared.numbers.Numbers.{Numbers}
 use Rattle.compare.specs.inner.Spans.{AreLeftIn}
 use Rattle.compare.proofs.SparedLaws.{of_spared, spared_of}
 use Rattle.compare.proofs.behind_runc.spared.spares_to.Goals as goal

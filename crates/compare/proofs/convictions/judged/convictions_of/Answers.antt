@@ -6,8 +6,8 @@ use Rattle.compare.proofs.convictions.judged.convictions_of.Goals as goal
 
 pub returns : goal.returns
 returns c =
-    let native = c.args.native in
-    let bundle = c.args.bundle.now in
+    let native = c.args.document.now.native in
+    let bundle = c.args.document.now.bytes in
     let filter = c.args.filter.now in
     let none : AllConvict native bundle filter c.new-all.result.items =
     subst (λ (all : List Conviction). AllConvict native bundle filter all) (sym c.new-all.ensures.items) (All-nil (Convicts native bundle filter)) in

@@ -1,6 +1,6 @@
 use Rattle.std.proofs.Common.{◌≡◌, ℕ, List}
 use Rattle.bpf_insn.specs.Bytes.{insns_of}
-use Rattle.call_tables.specs.declared.arch.Arch.{Arch}
+use Rattle.machines.specs.declared.arch.Arch.{Arch}
 use Rattle.kernel_check.specs.Lent.{accepted_insns}
 use Rattle.maker.specs.Certified.{AreJudged}
 use Rattle.compare.specs.Convictions.{AllConvict}

@@ -1,14 +1,15 @@
-use Rattle.std.proofs.Common.{subst}
-use Rattle.call_tables.specs.declared.arch.Family.{Family}
+use Rattle.std.proofs.Common.{ap, subst, ◌∙◌}
+use Rattle.machines.specs.Arch.{family_of}
+use Rattle.machines.specs.declared.arch.Family.{Family}
 use Rattle.compare.specs.Past.{IsFinding}
 use Rattle.compare.proofs.lint.told.judged.Goals as goal
 
 pub returns : goal.returns
 returns c = record {
-  profile = c.args.profile.now;
-  means = c.requires;
+  profile = c.args.bundle.now.profile;
+  means = c.requires.means;
   found = c.in_ok-found.found;
-  is = subst (λ (family : Family). IsFinding family c.args.profile.now c.in_ok-found.found) c.family.ensures c.in_ok-found.ensures;
+  is = subst (λ (family : Family). IsFinding family c.args.bundle.now.profile c.in_ok-found.found) (c.family.ensures ∙ ap family_of c.native.ensures) c.in_ok-found.ensures;
   done = c.is_nothing-done.ensures;
   text = rw c.into_bytes.ensures.value c.in_ok-text.ensures;
 }

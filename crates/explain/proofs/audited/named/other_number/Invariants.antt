@@ -1,5 +1,5 @@
 use Rattle.std.proofs.Common.{◌≡◌, drop}
-use Rattle.call_tables.specs.Arch.{table_of}
+use Rattle.call_tables.specs.Tables.{table_of}
 use Rattle.explain.specs.Audit.{number_by}
 use Rattle.explain.specs.inner.Names.{pairs}
 use Rattle.explain.proofs.audited.named.other_number.Given as goal

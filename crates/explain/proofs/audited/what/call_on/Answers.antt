@@ -1,6 +1,6 @@
 use Rattle.std.proofs.Common.{◌≡◌, ℕ, List, refl, subst, sym, ◌∙◌}
 use Rattle.std.specs.Prelude.{Option, Some, None, IfSome}
-use Rattle.call_tables.specs.declared.arch.Arch.{Arch}
+use Rattle.machines.specs.declared.arch.Arch.{Arch}
 use Rattle.explain.specs.Any.{IsWhat}
 use Rattle.explain.specs.inner.Found.{call_of}
 use Rattle.script.specs.Grammar.{LineIs}

@@ -1,5 +1,5 @@
 use Rattle.std.proofs.Common.{◌≡◌, take, map, Some}
-use Rattle.call_tables.specs.declared.arch.Arch.{Arch}
+use Rattle.machines.specs.declared.arch.Arch.{Arch}
 use Rattle.filter_c.specs.Machine.{machine_with}
 use Rattle.filter_c.proofs.added.made.machines_with.Given as goal
 

@@ -1,6 +1,6 @@
 use Rattle.std.proofs.Common.{◌≡◌, ℕ, ◌++◌, ◌∷◌, [], Option, Some, ◌∙◌, ap, subst}
 use Rattle.std.specs.BTreeMap.{Updates}
-use Rattle.call_tables.specs.Arch.{token_of}
+use Rattle.machines.specs.Arch.{token_of}
 use Rattle.profile.specs.inner.Places.{call_cmp, latest_of}
 use Rattle.profile.proofs.IndexLaws.{index_more}
 use Rattle.profile.proofs.index.Index.push.Goals as goal

@@ -1,6 +1,6 @@
 use Rattle.std.proofs.Common.{◌≡◌, List, sym, ◌∙◌, ap, subst, get_or}
 use Rattle.std.specs.List.{All}
-use Rattle.call_tables.specs.Width.{compared, is_narrow}
+use Rattle.machines.specs.Width.{compared, is_narrow}
 use Rattle.profile.specs.declared.conditions.Cond.{Cond}
 use Rattle.profile.specs.Condition.{Meets}
 use Rattle.profile.proofs.Arguments.{All-argument, All-field}

@@ -1,7 +1,7 @@
 use Rattle.std.specs.Prelude.{take}
 use Rattle.std.specs.List.{All}
 use Rattle.call_record.specs.Words.{IsRecord, argument}
-use Rattle.call_tables.specs.Width.{compared}
+use Rattle.machines.specs.Width.{compared}
 use Rattle.profile.specs.Condition.{Meets}
 use Rattle.rule_compile.specs.inner.Asked.{Asks}
 use Rattle.rule_compile.proofs.asked.Questions.ask_rule.Given as goal

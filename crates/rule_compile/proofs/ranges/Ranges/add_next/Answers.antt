@@ -1,5 +1,5 @@
 use Rattle.std.proofs.Common.{◌≡◌, ◌+◌, ◌<◌, ◌∙◌, ap, arith, length, max, refl, subst, sym, vec_len}
-use Rattle.call_tables.specs.Arch.{token_of}
+use Rattle.machines.specs.Arch.{token_of}
 use Rattle.rule_compile.specs.declared.ranges.Leaf.TheVariants.{Verdict}
 use Rattle.rule_compile.specs.inner.Numbers.{AreUnconditional, IsExtended, LeafFor, Reached}
 use Rattle.rule_compile.specs.inner.Stands.{DecidesNumber}

@@ -1,6 +1,6 @@
 use Rattle.std.proofs.Common.{arith}
 use Rattle.std.specs.Prelude.{◌↔◌, IsTrue}
-use Rattle.call_tables.specs.Numbers.{HasCall, has_call}
+use Rattle.machines.specs.Numbers.{HasCall, has_call}
 use Rattle.widths.proofs.OwnerLaws.{Decides-has_call, same_answer}
 use Rattle.widths.proofs.arguments.owner.has_call.Goals as goal
 

@@ -2,7 +2,7 @@ use Rattle.std.proofs.Common.{◌≡◌, true, List, map, sym, ◌∙◌, ap, su
 use Rattle.std.specs.Prelude.{IfSome, IsSome, None, Option, Some}
 use Rattle.std.specs.List.{AllZip}
 use Rattle.arrayvec.specs.declared.array_vec.ArrayVec.{ArrayVec}
-use Rattle.call_tables.specs.Arch.{token_of}
+use Rattle.machines.specs.Arch.{token_of}
 use Rattle.profile.specs.declared.conditions.Cond.{Cond}
 use Rattle.profile.specs.declared.rules.Rule.{Rule}
 use Rattle.profile.specs.Operator.{are_distinct}

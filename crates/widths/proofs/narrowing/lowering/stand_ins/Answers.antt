@@ -1,7 +1,7 @@
 use Rattle.std.proofs.Common.{◌≡◌, ◌+◌, ℕ, [], ◌∷◌, ◌++◌, List, take, sym, ◌∙◌, ap, subst, arith}
 use Rattle.std.specs.List.{AllZip}
 use Rattle.std.proofs.lemmas.List.{take_more}
-use Rattle.call_tables.specs.Arch.{token_of}
+use Rattle.machines.specs.Arch.{token_of}
 use Rattle.profile.specs.declared.conditions.Cond.{Cond}
 use Rattle.widths.specs.Lowered.{IsUnfitOrder, StandsFor}
 use Rattle.widths.specs.Narrowed.{Has}

@@ -1,6 +1,6 @@
 use Rattle.std.proofs.Common.{take}
 use Rattle.std.specs.List.{AllZip}
-use Rattle.call_tables.specs.Arch.{token_of}
+use Rattle.machines.specs.Arch.{token_of}
 use Rattle.widths.specs.Lowered.{StandsFor}
 use Rattle.widths.proofs.narrowing.lowering.stand_ins.Given as goal
 

@@ -1,6 +1,6 @@
 use Rattle.std.proofs.Common.{◌≡◌, ◌⊎◌, ◌↔◌, ℕ, List, [], ◌∷◌, ◌++◌, inl, inr}
-use Rattle.call_tables.specs.declared.numbers.Numbers.{Numbers}
-use Rattle.call_tables.specs.Numbers.{IsWithin}
+use Rattle.machines.specs.declared.numbers.Numbers.{Numbers}
+use Rattle.machines.specs.Numbers.{IsWithin}
 use Rattle.compare.specs.inner.Parts.{IsAmong}
 use Rattle.compare.proofs.AnyLaws.{any_one, one_any}
 use Rattle.rule_compile.proofs.RulesLaws.{any_either, any_left, any_right}

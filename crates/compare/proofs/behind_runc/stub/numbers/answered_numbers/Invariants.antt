@@ -1,6 +1,6 @@
 use Rattle.std.proofs.Common.{◌<◌, ◌-◌, ◌^◌, ℕ, List, drop}
 use Rattle.call_record.specs.Words.{IsRecord, word}
-use Rattle.call_tables.specs.Numbers.{IsWithin}
+use Rattle.machines.specs.Numbers.{IsWithin}
 use Rattle.kernel_check.specs.Lent.{accepted_insns}
 use Rattle.compare.specs.inner.Parts.{IsAmong, SplitsBy}
 use Rattle.compare.specs.inner.Path.{IsPart}

@@ -1,8 +1,8 @@
 use Rattle.std.proofs.Common.{◌≡◌, ◌<◌, ◌≤◌, ◌⊎◌, [], ◌++◌, ℕ, List, drop, map, ◌+◌, ◌∙◌, ap, refl, sym, inl, inr, arith}
 use Rattle.bpf_insn.specs.declared.instruction.Insn.{Insn}
 use Rattle.call_record.specs.Words.{IsRecord, word}
-use Rattle.call_tables.specs.declared.numbers.Numbers.{Numbers}
-use Rattle.call_tables.specs.Numbers.{IsWithin}
+use Rattle.machines.specs.declared.numbers.Numbers.{Numbers}
+use Rattle.machines.specs.Numbers.{IsWithin}
 use Rattle.kernel_check.specs.Lent.{accepted_insns}
 use Rattle.compare.specs.declared.behind_runc.stub.calls.Calls.{Calls}
 use Rattle.compare.specs.Stub.{IsAnswered}

@@ -1,5 +1,0 @@
-use Rattle.call_tables.proofs.ArchLaws.{table_of-inverse}
-use Rattle.call_tables.proofs.arch.look_ups_are_inverse.Goals as goal
-
-pub returns : goal.returns
-returns c = table_of-inverse c.args.arch

@@ -1,0 +1,3 @@
+pub mod ArchLaws
+pub mod NumberLaws
+pub mod ForeignLaws

@@ -1,0 +1,4 @@
+pub mod Machines
+pub mod Arch
+pub mod Numbers
+pub mod Width
