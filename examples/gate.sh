@@ -1,9 +1,10 @@
 #!/usr/bin/env bash
-# gate.sh CCELL MACHINE OLD NEW: compares each bundle of the folder NEW with the one of that name in the folder OLD. Status 0 where
-# each of them lets nothing through that its old one refuses. A bundle that one of the folders lacks fails: a profile that is gone may
+# gate.sh CCELL MACHINE OLD NEW: compares each bundle of the folder NEW with the one of that name in the folder OLD. Status 0 where each of
+# them lets nothing through that its old one refuses, and has no flags and no listener but its old one's. Where flags or a listener fail it,
+# the line may still say `same`: what they are stands below it. A bundle that one of the folders lacks fails: a profile that is gone may
 # leave its container without a filter. Compare narrowed bundles with narrowed ones (`ccell adapt .. narrow`). Only files that end in .json
-# are bundles. The status is 1 where one lets more through, is missing, or there is none, and 2 where the words are wrong. If `ccell compare`
-# ends with more, as with 4 at a bundle that cannot be read, it is the highest of these.
+# are bundles. The status is 1 where one lets more through, is missing, or there is none, and 2 where the words are wrong. If `ccell
+# compare` ends with more, as with 4 at a bundle that cannot be read, it is the highest of these.
 set -u
 shopt -s nullglob
 usage() { echo 'usage: gate.sh CCELL MACHINE OLD NEW, where OLD and NEW are folders' >&2; exit 2; }

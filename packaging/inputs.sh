@@ -53,6 +53,9 @@ is_of_inputs() {
     [ -x "$1" ] && { read -r hash <"$1.inputs"; } 2>/dev/null && [ "$hash" = "$inputs" ]
 }
 
+# Whether nothing that was built in a folder out/ is committed.
+commits_nothing_built() { [ -z "$(git ls-files 'crates/*/out/*' 2>/dev/null)" ]; }
+
 # Sets `program` to the one in dist/, or else to the one that was built here, if it is of the sources at hand; else to nothing.
 find_program() {
     inputs_of "$1"

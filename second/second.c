@@ -66,6 +66,7 @@ struct condition { unsigned argument; bool is_order, is_not; uint64_t low, high,
 static struct rule { unsigned machine, conditions; uint32_t number, verdict; struct condition condition[6]; } rules[MOST_RULES];
 static unsigned rule_count, default_verdict, line = 1;
 static uint16_t sorted[MOST_RULES]; /* the places of the rules, by token and number */
+static uint64_t begin[MOST_RULES + 1]; /* where the line of a rule begins */
 static char end;                    /* what stood behind the last field */
 
 static void need(bool is_so) {
@@ -74,18 +75,19 @@ static void need(bool is_so) {
 /* The next field of the line, and whether what has to stand behind it does: a space, a line feed, or either for 0. */
 static char *take_field(char wanted) {
     char *field = bytes + cursor;
+    line += end == '\n';
     cursor += strcspn(field, " \n");
     end = bytes[cursor];
     need(wanted == 0 ? end != 0 : end == wanted);
     bytes[cursor++] = 0;
-    line += end == '\n';
     return field;
 }
 
 static uint64_t take_number(int base, uint64_t most, char wanted) {
-    char *field = take_field(wanted), *rest;
-    uint64_t number = strtoull(field, &rest, base);
-    need(field[0] >= '0' && field[0] <= '9' && *rest == 0 && strlen(field) <= 18 && number <= most && (base == 10 || field[1] == 'x'));
+    char *field = take_field(wanted), *digits = base == 10 ? field : field + 2;
+    uint64_t number = strtoull(field, NULL, base);
+    need(strlen(field) <= 18 && number <= most && (base == 10 || strncmp(field, "0x", 2) == 0));
+    need(*digits != 0 && digits[strspn(digits, base == 10 ? "0123456789" : "0123456789abcdef")] == 0 && (*digits != '0' || digits[1] == 0));
     return number;
 }
 
@@ -112,20 +114,34 @@ static void take_condition(struct condition *condition) {
 }
 
 static uint64_t key_of(unsigned rule) { return (uint64_t)machines[rules[rule].machine].token << 32 | rules[rule].number; }
+/* Whether the lines of two rules are the same. */
+static bool is_same_rule(unsigned one, unsigned two) {
+    uint64_t length = begin[one + 1] - begin[one];
+    return length == begin[two + 1] - begin[two] && memcmp(bytes + begin[one], bytes + begin[two], length) == 0;
+}
+
+static bool is_in(const struct ranges *ranges, uint32_t number) {
+    for (unsigned i = 0; i < ranges->count; i++) if (ranges->low[i] <= number && number <= ranges->high[i]) return true;
+    return false;
+}
+
 static void take_rule(unsigned place) {
     struct rule *rule = &rules[place];
+    begin[place] = cursor;
     rule->machine = take_name(machine_names, MACHINES, ' ');
     rule->number = (uint32_t)take_number(10, ALL, ' ');
     rule->verdict = (uint32_t)take_number(16, ALL, 0);
-    need(machines[rule->machine].is_listed);
+    need(machines[rule->machine].is_listed && is_in(&machines[rule->machine].own, rule->number));
     for (unsigned arguments = 0; end == ' '; rule->conditions++) {
         need(rule->conditions < 6);
         take_condition(&rule->condition[rule->conditions]);
         need((arguments >> rule->condition[rule->conditions].argument & 1) == 0);
         arguments |= 1u << rule->condition[rule->conditions].argument;
     }
+    begin[place + 1] = cursor;
     unsigned before = place;
     for (; before > 0 && key_of(sorted[before - 1]) > key_of(place); before--) sorted[before] = sorted[before - 1];
+    for (unsigned i = before; i > 0 && key_of(sorted[i - 1]) == key_of(place); i--) need(!is_same_rule(sorted[i - 1], place));
     sorted[before] = (uint16_t)place;
 }
 /* The first place in `sorted` with at least this token and number. */
@@ -170,6 +186,7 @@ static bool overlap(const struct rule *rule, const struct rule *other) {
 static void need_field(const char *field, char wanted) { need(strcmp(take_field(wanted), field) == 0); }
 static void read_profile(const char *name, const char *native) {
     bool is_listed = false, is_linux = strncmp(native, "linux-", 6) == 0;
+    unsigned next = 0; /* machines stand in the order of their names here */
     read_file(name);
     need(byte_count <= MOST_BYTES);
     need_field("ccell-profile", ' ');
@@ -179,9 +196,11 @@ static void read_profile(const char *name, const char *native) {
     need_field("machines", ' ');
     for (end = ' '; end == ' ';) {
         unsigned machine = take_name(machine_names, MACHINES, 0);
-        need(machines[machine].is_linux == is_linux);
+        need(machines[machine].is_linux == is_linux && machine >= next);
         machines[machine].is_listed = true;
-        is_listed |= strcmp(machine_names[machine], native) == 0;
+        next = machine + 1;
+        bool is_native = machine != X32 && !machines[machine].has_half_arguments;
+        is_listed |= is_native && strcmp(machine_names[machine], native) == 0;
     }
     need(is_listed);
     if (machines[X86_64].is_listed && machines[X32].is_listed) machines[X86_64].foreign.count = machines[X32].foreign.count = 0;
@@ -190,6 +209,7 @@ static void read_profile(const char *name, const char *native) {
     need_field("rules", ' ');
     unsigned count = (unsigned)take_number(10, MOST_RULES, '\n');
     for (; rule_count < count; rule_count++) take_rule(rule_count);
+    line += cursor != byte_count;
     need(cursor == byte_count && end == '\n');
     for (unsigned i = 0; i < rule_count; i++)
         for (unsigned j = i + 1; j < rule_count && key_of(sorted[j]) == key_of(sorted[i]); j++)
@@ -446,9 +466,10 @@ static int answer_of(const struct rule *rule, const struct condition *c) {
         return holds_first != holds_last ? OPEN : holds_first ? YES : NO;
     }
     uint64_t mask = c->is_not ? UINT64_MAX : c->mask, data = c->data;
-    bool has_data = entails_bits(low, mask & ALL, data & ALL) && entails_bits(high, mask >> 32, data >> 32);
+    bool has_data = entails_bits(low, mask & ALL, data & ALL) && entails_bits(high, (uint32_t)(mask >> 32), (uint32_t)(data >> 32));
     if (has_data && !c->is_not) return YES;
-    if (entails_not_bits(low, mask & ALL, data & ALL) || entails_not_bits(high, mask >> 32, data >> 32)) return c->is_not ? YES : NO;
+    if (entails_not_bits(low, mask & ALL, data & ALL) || entails_not_bits(high, (uint32_t)(mask >> 32), (uint32_t)(data >> 32)))
+        return c->is_not ? YES : NO;
     return has_data ? NO : OPEN;
 }
 /* Whether a condition of a rule is *no*, but for those that are met if these count. The one that was so last time is asked first. */

@@ -72,11 +72,14 @@ class Packages:
 
     def alone(self, name):
         """The file of a package, without those that it asks for."""
-        found = glob.glob(f"{self.folder}/{name}_*.deb")
-        if not found:
-            self.apt("apt-get", "-qq", "download", name)
-            found = glob.glob(f"{self.folder}/{name}_*.deb")
-        return found[0]
+        return self.each_alone(name)[0]
+
+    def each_alone(self, *names):
+        """The same of several packages."""
+        missing = [name for name in names if not glob.glob(f"{self.folder}/{name}_*.deb")]
+        if missing:
+            self.apt("apt-get", "-qq", "download", *missing)
+        return [glob.glob(f"{self.folder}/{name}_*.deb")[0] for name in names]
 
     def with_all(self, *names):
         """The files of packages and of all that they ask for: the given ones where these have the name."""

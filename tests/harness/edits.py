@@ -6,7 +6,7 @@ from typing import NamedTuple
 TOP = os.path.dirname(os.path.dirname(os.path.dirname(os.path.abspath(__file__))))
 PARTS = ("src/", "specs/", "proofs/")
 # Sections of the page in which no crate makes a promise of its own.
-WITHOUT_EDIT = ("Safe", "What is only tested")
+WITHOUT_EDIT = ("Safe",)
 
 
 class Row(NamedTuple):
@@ -64,9 +64,9 @@ def sections():
 
 
 def promised():
-    """The sections of docs/PROMISES.md, as they are named there without their crates."""
+    """The sections of docs/PROMISES.md below its four headings, as they are named there without their crates."""
     with open(f"{TOP}/docs/PROMISES.md", encoding="utf-8") as file:
-        heads = re.findall(r"(?m)^## (.*)$", file.read())
+        heads = re.findall(r"(?m)^### (.*)$", file.read())
     return [re.sub(r" \(.*\)$", "", head) for head in heads]
 
 

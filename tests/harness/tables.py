@@ -212,15 +212,8 @@ def faults_of_files(page, text):
     return faults
 
 
-def faults_of_crates(page, text):
-    """The tables of crates: their rows are together those of crates.txt."""
-    crates = re.findall(r"^(\w+)(?: \w+)?:", read("crates.txt"), re.M)
-    shown = [re.sub("`", "", row[0]) for head, *rows in tables(text) if head[:2] == ["Crate", "Of the kit"] for row in rows]
-    return ["its tables of crates have not those of crates.txt"] if shown and sorted(shown) != sorted(crates) else []
-
-
 def faults_of_commands(page, text):
-    """The table of the first page: what it runs are commands of the program's own list."""
+    """The table of commands: what it runs are commands of the program's own list."""
     listed = [line.split()[0] for line in told("manual").decode().splitlines()]
     for head, *rows in tables(text):
         if head == ["You have", "You run", "You get"]:
@@ -231,6 +224,42 @@ def faults_of_commands(page, text):
     return []
 
 
+def promises(text):
+    """The rows of the page of promises, each as its section and its name."""
+    for part in re.split(r"(?m)^### ", text)[1:]:
+        section = re.sub(r" \(.*\)$", "", part.splitlines()[0])
+        yield from ((section, row[0]) for head, *rows in tables(part) if head[0] == "Promise" for row in rows)
+
+
+def names_of_crates():
+    """All names that stand in sources and definitions of crates."""
+    found = set()
+    for kind in ("src/**/*.rt", "specs/**/*.antt"):
+        for path in glob.glob(f"crates/*/{kind}", root_dir=TOP, recursive=True):
+            found.update(re.findall(r"[A-Za-z_]\w*", read(path)))
+    return found
+
+
+def unknown_names(rows):
+    """The names in the last cells of these rows that no crate has: words with `_` or with a capital inside."""
+    known = names_of_crates()
+    for row in rows:
+        for name in re.findall(r"[A-Za-z_]\w*", re.sub(r"\b(?:tests|docs|specs|src)/\S+", "", row[-1])):
+            if ("_" in name or re.search(r"[a-z][A-Z]", name)) and name not in known:
+                yield name
+
+
+def faults_of_promises(page, text):
+    """The promises of the page and those of which docs/figures names the contracts, by names that crates have."""
+    if os.path.basename(page) != "PROMISES.md":
+        return []
+    rows = [line.split("\t") for line in read("docs/figures/contracts.tsv").splitlines()[3:]]
+    named, faults = [tuple(row[:2]) for row in rows], [f"contracts.tsv: no crate has the name {name}" for name in unknown_names(rows)]
+    lone = sorted(set(promises(text)) ^ set(named))
+    lone = lone or ([] if list(promises(text)) == named else ["the order, or a row that stands twice"])
+    return faults + [f"the page and docs/figures/contracts.tsv have not the same rows: {it}" for it in lone]
+
+
 CHECKS = (
     faults_of_labels,
     faults_of_codes,
@@ -238,8 +267,8 @@ CHECKS = (
     faults_of_actions,
     faults_of_calls,
     faults_of_files,
-    faults_of_crates,
     faults_of_commands,
+    faults_of_promises,
 )
 
 

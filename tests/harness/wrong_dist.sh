@@ -84,9 +84,20 @@ finds 'dist/kit: built by' ': >kit'
 finds "dist/kit: edition '1'" "sed -i 's/^edition: .*/edition: 1/' kit"
 finds 'dist/ask: built of other sources' 'echo 0 >ask.inputs'
 finds 'dist/libseccomp.so.2: built of other sources' 'rm libseccomp.so.2.inputs'
+finds 'dist: its files are not' 'printf "#!/bin/sh\necho yes\n" >aarch64/ccell'
+finds 'dist: its files are not' 'echo more >more'
 finds_by_sums 'rm SHA256SUMS'
 finds_by_sums 'sed -i 1d SHA256SUMS'
-finds_by_sums 'echo more >more'
+
+# Whether a tree with a library of out/ among its commits is told from one without.
+tells_committed() {
+    local tree=$room/committed
+    mkdir -p "$tree/crates/filter_c/out/x86-64" && echo evil >"$tree/crates/filter_c/out/x86-64/libccell.a"
+    (
+        cd "$tree" && git init -q && commits_nothing_built && git add -f crates && ! commits_nothing_built && echo told
+    )
+}
+count "$(tells_committed)" told 'a library below out/ that is committed'
 
 make_copy
 printf x >>"$dist/libseccomp.so.2"

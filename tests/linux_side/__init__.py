@@ -1,0 +1,1 @@
+"""Linux's own functions as a program, for tests/linux."""

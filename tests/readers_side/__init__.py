@@ -1,0 +1,1 @@
+"""Engines' own readers of profiles, for tests/readers."""
