@@ -2,8 +2,8 @@
 //!
 //! The kernel's tables of calls list them so: `arch/x86/entry/syscalls/syscall_64.tbl` and `syscall_32.tbl`,
 //! `scripts/syscall.tbl`, `arch/arm/tools/syscall.tbl`, `arch/powerpc/kernel/syscalls/syscall.tbl`,
-//! `arch/s390/kernel/syscalls/syscall.tbl`. Those of s390 are of Linux 6.12, from 463 on of libseccomp 2.6.1. The later half stands in
-//! `linux_calls_later`.
+//! `arch/s390/kernel/syscalls/syscall.tbl`. Those of s390 are of Linux 6.12, and from 463 on of libseccomp 2.6.1.
+//! The later half stands in `linux_calls_later`.
 
 /// Stands where a machine has no call of the name. No call has this number.
 pub(crate) const NONE: u32 = u32::MAX;
