@@ -290,7 +290,7 @@ module _ {O : Type 0} (held : O → Option (List ℕ)) (failures : O → Failure
   -- what `compare` tells, by whether `filters` stands behind the files
   abbrev pub AnswersCompare : Bool → Parts → Result Bool Stop → Type 0
   AnswersCompare true p result =
-      AnswersTold (p.two ∷ p.three ∷ []) (of_two (λ old new. IsTold (read_as p.native old) (read_as p.native new))) result
+      AnswersTold (p.two ∷ p.three ∷ []) (of_two (λ old new. IsTold p.native (read_as p.native old) (read_as p.native new))) result
   AnswersCompare false p result = AnswersTold (p.two ∷ p.three ∷ [])
       (of_two (OfBundles p.native (TellsCompared (bytes_eq p.four (codes "atmost")) p.native))) result
 

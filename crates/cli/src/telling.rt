@@ -212,7 +212,7 @@ fn filters_told(
     first: &[u8],
     second: &[u8],
 ) -> Result<Told, AllocError>
-    ensures { IfOk result (IsTold (read_as native first.now) (read_as native second.now)) }
+    ensures { IfOk result (IsTold native (read_as native first.now) (read_as native second.now)) }
 {
     let old = read_as(alloc, native, first)?;
     let new = read_as(alloc, native, second)?;
@@ -227,7 +227,7 @@ fn filters_compared_with<'a, F: Files>(
     new: &'a str,
     files: &mut F,
 ) -> Result<Told, Stop<'a>>
-    ensures { IsToldOf (F.folder files.old) (new.entry.now ∷ []) (of_one (λ new. IsTold (read_as native first.now) (read_as native new))) result }
+    ensures { IsToldOf (F.folder files.old) (new.entry.now ∷ []) (of_one (λ new. IsTold native (read_as native first.now) (read_as native new))) result }
 {
     match read(alloc, files, new) {
         Ok(second) => match filters_told(alloc, native, first, &second) {
@@ -246,7 +246,7 @@ fn filters_compared<'a, F: Files>(
     new: &'a str,
     files: &mut F,
 ) -> Result<Told, Stop<'a>>
-    ensures { IsToldOf (F.folder files.old) (old.entry.now ∷ new.entry.now ∷ []) (of_two (λ old new. IsTold (read_as native old) (read_as native new))) result }
+    ensures { IsToldOf (F.folder files.old) (old.entry.now ∷ new.entry.now ∷ []) (of_two (λ old new. IsTold native (read_as native old) (read_as native new))) result }
 {
     match read(alloc, files, old) {
         Ok(first) => filters_compared_with(alloc, native, &first, new, files),
