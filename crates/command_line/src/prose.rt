@@ -22,7 +22,6 @@ pub enum Command {
     Annotate,
     Draw,
     Recover,
-    Tune,
     Join,
     Meet,
     Stack,
@@ -203,16 +202,6 @@ Status 0, or 1 if no section means the same, with a call that shows why.
 Example: ccell recover linux-x86-64 container.bpf runc without-x32 > container.json
 ";
 
-const TUNE: &str =
-    "Writes a filter that export could have written, in another order: for calls that are made as often as
-the file counts them, it runs the fewest instructions that are found, and is at most a tenth longer. The
-checker has answered yes. Calls that Linux answers without running a filter count as none. Standard
-error reports the instructions a call before and after.
-Status 0, 4 if the bundle or the counts are refused, or 1 and a line that begins with 'refused'.
-
-Example: ccell tune linux-x86-64 web.json web.counts > web.bpf
-";
-
 const JOIN: &str =
     "Writes the section of a profile that gives each call the laxest of the answers that the bundles give
 it: what one of them allows is allowed. With bundle as the last word it writes the config.json of runc
@@ -305,7 +294,6 @@ impl Command {
             Command::Annotate => ANNOTATE,
             Command::Draw => DRAW,
             Command::Recover => RECOVER,
-            Command::Tune => TUNE,
             Command::Join => JOIN,
             Command::Meet => MEET,
             Command::Stack => STACK,
