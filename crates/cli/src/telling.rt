@@ -39,7 +39,6 @@ pub(crate) fn is_refusal(bytes: &[u8]) -> bool
         || bytes.starts_with(b"refused call")
         || bytes.starts_with(b"refused log ")
         || bytes.starts_with(b"refused lines")
-        || bytes.starts_with(b"refused counts ")
 }
 
 // How a command ends that told whether it was done.
