@@ -105,9 +105,11 @@ refusal_text all x =
 abbrev pub left_text : ℕ → List ℕ
 left_text left = if left == 0 then [] else codes ", " ++ decimal left ++ codes " left to a tracer or a listener"
 
+abbrev pub refused_text : ℕ → ℕ → List ℕ
+refused_text refused calls = decimal refused ++ codes " of " ++ decimal calls ++ codes " records refused"
+
 abbrev pub count_text : ℕ → ℕ → ℕ → List ℕ
-count_text refused left calls =
-    decimal refused ++ codes " of " ++ decimal calls ++ codes " records refused" ++ left_text left ++ line_feed ∷ []
+count_text refused left calls = refused_text refused calls ++ left_text left ++ line_feed ∷ []
 
 -- how many of the calls are refused, and how many are left to a tracer or a listener
 abbrev pub counts_text : List Refused → ℕ → List ℕ

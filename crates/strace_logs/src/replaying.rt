@@ -21,6 +21,13 @@ use std::alloc::{AllocError, Global};
 use std::fmt::Write;
 use wording::{Told, refused_profile};
 
+// Adds how many of the records are refused.
+fn put_refused(text: &mut String, refused: usize, records: usize) -> Result<(), AllocError>
+    ensures { IfOk result (λ _. string_bytes text.new ≡ string_bytes text.old ++ spec.refused_text refused records) }
+{
+    write!(text, "{refused} of {records} records refused")
+}
+
 // Adds how many records are left to a tracer or a listener, if there are any.
 fn put_left(text: &mut String, left: usize) -> Result<(), AllocError>
     ensures { IfOk result (λ _. string_bytes text.new ≡ string_bytes text.old ++ spec.left_text left) }
@@ -40,9 +47,10 @@ fn put_count(
 ) -> Result<(), AllocError>
     ensures { IfOk result (λ _. string_bytes text.new ≡ string_bytes text.old ++ spec.count_text refused left records) }
 {
-    write!(text, "{refused} of {records} records refused")?;
+    put_refused(text, refused, records)?;
     put_left(text, left)?;
-    text.push_str("\n")
+    text.push_str("\n")?;
+    Ok(())
 }
 
 // Adds what is not used, if it is asked for.
