@@ -1,6 +1,6 @@
 -- Each call that differs is told.
-use Rattle.std.proofs.Common.{◌≡◌, ◌==◌, ◌&&◌, ◌++◌, ◌⊎◌, ℕ, inl, inr, Bool, true, false, List, [], ◌∷◌, refl, sym, ◌∙◌, ap}
-use Rattle.std.specs.List.{All, list_any}
+use Rattle.std.proofs.Common.{◌≡◌, ◌==◌, ◌&&◌, ◌||◌, ◌++◌, ◌⊎◌, ℕ, inl, inr, Bool, true, false, List, [], ◌∷◌, refl, sym, ◌∙◌, ap, subst}
+use Rattle.std.specs.List.{All, flat_map, list_any}
 use Rattle.std.proofs.lemmas.Bool.{and_parts, both_ways, eq-eqb, eqb-true, or_cases, or_left, or_right}
 use Rattle.std.proofs.lemmas.List.Folds.{list_any-append}
 use Rattle.std.proofs.lemmas.List.Elements.{All-head, All-tail}
@@ -9,6 +9,7 @@ use Rattle.machines.specs.declared.arch.Family.{Family}
 use Rattle.profile.specs.Policy.{IsClear, Policy}
 use Rattle.differ.specs.Direction.{tells}
 use Rattle.differ.specs.Everywhere.{AreLike}
+use Rattle.differ.specs.OnCall.{IsOfCall}
 use Rattle.differ.specs.Differences as differ
 use Rattle.differ.specs.Differences.{AreAll}
 use Rattle.differ.specs.declared.direction.Direction.{Direction}
@@ -19,6 +20,7 @@ use Rattle.differ.specs.declared.named.Call.{Call}
 use Rattle.differ.specs.Named.{is_call, is_named}
 use Rattle.compare.specs.Complete.{AreComplete, AreListed, IsAnswered, IsCovered, differences_in, is_crowded, is_crowded_with, is_on, is_same, is_with, told_of}
 use Rattle.compare.specs.Difference.{IsChange, IsDifference, IsLike, SayTheSame}
+use Rattle.compare.specs.NoMore.{AllowsNoMore}
 use Rattle.compare.specs.Order.{IsSides, is_less, is_more}
 use Rattle.compare.specs.inner.Sided.{sides_of}
 use Rattle.compare.specs.declared.change.Change.{Change}

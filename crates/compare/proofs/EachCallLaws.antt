@@ -1,5 +1,5 @@
 -- What is so of all records where no call is found on which two profiles differ.
-use Rattle.std.proofs.Common.{◌==◌, ℕ, List, refl, sym, subst}
+use Rattle.std.proofs.Common.{◌≡◌, ◌==◌, ℕ, List, refl, sym, subst}
 use Rattle.std.proofs.lemmas.Bool.{not-false, eqb-true}
 use Rattle.call_record.specs.Words.{IsRecord}
 use Rattle.profile.specs.Policy.{Policy, IsClear, Says}

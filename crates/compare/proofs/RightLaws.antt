@@ -3,7 +3,7 @@ use Rattle.std.proofs.Common.{◌≡◌, ◌↔◌, ℕ, List, Option, inl, inr,
 use Rattle.std.specs.Prelude.{Some}
 use Rattle.std.specs.List.{All, Contains}
 use Rattle.bpf_insn.specs.declared.instruction.Insn.{Insn}
-use Rattle.call_record.specs.Words.{word}
+use Rattle.call_record.specs.Words.{IsRecord, word}
 use Rattle.cert_check.specs.Right.{IsRight}
 use Rattle.profile.specs.declared.rules.Rule.{Rule}
 use Rattle.profile.specs.Policy.{IsNative, Policy, Says}

@@ -1,16 +1,17 @@
 -- What is asked of the first number in each stretch is so of all of them.
-use Rattle.std.proofs.Common.{◌≡◌, ℕ, ◌<◌, ◌≤◌, ◌⊎◌, inl, inr, List, [], ◌∷◌, refl, sym, subst, arith, slice_index_or}
+use Rattle.std.proofs.Common.{◌≡◌, ◌↔◌, ℕ, ◌<◌, ◌≤◌, ◌⊎◌, inl, inr, List, [], ◌∷◌, refl, sym, subst, arith, slice_index_or}
 use Rattle.std.specs.List.{All, Any}
 use Rattle.std.proofs.lemmas.Bool.{cases_lt}
 use Rattle.machines.specs.declared.arch.Arch.{Arch}
 use Rattle.machines.specs.declared.arch.Arch.TheVariants.{X86_64, Aarch64, LinuxX86_64, LinuxX86, LinuxX32, LinuxAarch64, LinuxArm, LinuxRiscv64, LinuxPpc64le, LinuxLoongarch64, LinuxS390x, LinuxS390}
 use Rattle.machines.specs.declared.numbers.Numbers.{Numbers}
+use Rattle.machines.specs.Arch.{token_of}
 use Rattle.machines.specs.Numbers.{HasCall, IsOwn, IsWithin, from_to}
 use Rattle.profile.specs.declared.rules.Rule.{Rule}
 use Rattle.profile.specs.Policy.{Policy}
 use Rattle.rule_compile.proofs.RulesLaws.{any_cases, any_here, any_later, any_nil}
 use Rattle.compare.specs.declared.behind_runc.stub.calls.Calls.{Calls}
-use Rattle.compare.specs.Spared.{IsBeyond, IsSpared}
+use Rattle.compare.specs.Spared.{IsBeyond, IsNoCall, IsSpared, IsVacant}
 use Rattle.compare.specs.inner.Spans.{AreBeyond, AreLeft, AreLeftIn, cut, spans}
 
 -- ---- numbers that are of the same machines

@@ -10,8 +10,8 @@ use Rattle.cert_check.specs.Right.{IsRight}
 use Rattle.maker.specs.declared.evidence.evidence.Conviction.{Conviction}
 use Rattle.maker.specs.declared.evidence.evidence.Evidence.{Evidence}
 use Rattle.maker.specs.declared.evidence.evidence.Evidence.TheVariants.{Certificate, Convicting}
-use Rattle.maker.specs.Certified.{Certifies, CertifiesOwn, IsEvidenceFor, IsJudgement, IsOwnJudgement}
-use Rattle.maker.specs.Exported.{Refuses}
+use Rattle.maker.specs.Certified.{Certifies, CertifiesOwn, IsEvidenceFor, IsJudgement, IsOwnJudgement, WritesConviction}
+use Rattle.maker.specs.Exported.{LacksMemory, Refuses}
 use Rattle.maker.specs.Told.{Tells}
 use Rattle.maker.specs.declared.unready.Unready.{Unready}
 use Rattle.maker.specs.Finding.{IsBundle}
@@ -24,7 +24,7 @@ use Rattle.texts.specs.Failures.{Failures}
 use Rattle.texts.specs.Sink.{WritesMade}
 use Rattle.texts.specs.declared.streams.fault.WriteFault.{WriteFault}
 use Rattle.compare.specs.declared.behind_runc.stub.calls.Calls.{Calls}
-use Rattle.compare.specs.Behind.{IsBehind, IsJudgedBehind, IsNoConviction, MeansRight, MeansSparing, WritesBehind}
+use Rattle.compare.specs.Behind.{IsBehind, IsFound, IsJudgedBehind, IsNoConviction, MeansRight, MeansSparing, WritesBehind}
 use Rattle.compare.specs.Spared.{IsRightBehind, Spares}
 use Rattle.compare.specs.Stub.{IsOf}
 use Rattle.compare.proofs.RightLaws.{spared_is_right}

@@ -3,7 +3,7 @@ use Rattle.std.specs.Prelude.{ℕ, ◌≡◌, ◌≤◌, ◌<◌, ◌⊎◌, max
 use Rattle.std.specs.List.{All, Any}
 use Rattle.machines.specs.declared.numbers.Numbers.{Numbers}
 use Rattle.machines.specs.Arch.{token_of}
-use Rattle.machines.specs.Numbers.{HasCall, IsWithin, from_to}
+use Rattle.machines.specs.Numbers.{HasCall, IsOwn, IsWithin, from_to}
 use Rattle.profile.specs.declared.rules.Rule.{Rule}
 use Rattle.profile.specs.Policy.{Policy}
 use Rattle.compare.specs.declared.behind_runc.stub.calls.Calls.{Calls}

@@ -1,4 +1,4 @@
-use Rattle.std.proofs.Common.{List, ap, ◌∙◌, sym, subst}
+use Rattle.std.proofs.Common.{◌≡◌, List, true, ap, ◌∙◌, sym, subst}
 use Rattle.std.specs.List.{All, list_any}
 use Rattle.differ.specs.Differences.{is_told}
 use Rattle.differ.specs.OnCall.{AreCrowded, IsFound}

@@ -1,4 +1,4 @@
-use Rattle.std.proofs.Common.{◌≡◌, ◌<◌, inl, inr, List, length, true, take, ap, ◌∙◌, subst, sym, arith}
+use Rattle.std.proofs.Common.{◌≡◌, ◌<◌, inl, inr, List, length, true, get_or, take, ap, ◌∙◌, subst, sym, arith}
 use Rattle.std.proofs.lemmas.List.{take_all, take_more}
 use Rattle.std.proofs.lemmas.List.Elements.{All-get_or, All-push}
 use Rattle.std.specs.List.{All, list_any}
@@ -8,7 +8,7 @@ use Rattle.compare.specs.Complete.{IsCrowded, is_crowded}
 use Rattle.compare.specs.Past.{IsUndecided}
 use Rattle.unread_bits.specs.Crowded as past
 use Rattle.compare.specs.declared.search.Crowded.{Crowded}
-use Rattle.compare.proofs.CompleteLaws.{any_last, any_more, any_push}
+use Rattle.compare.proofs.CompleteLaws.{any_last, any_more, any_push, on_crowded}
 use Rattle.compare.proofs.search.crowded_of.Goals as goal
 
 pub loop-call-preserved : goal.loop-call-preserved

@@ -1,4 +1,4 @@
-use Rattle.std.proofs.Common.{subst, sym, ◌∙◌}
+use Rattle.std.proofs.Common.{subst, sym, ◌∙◌, ◌≡◌}
 use Rattle.machines.specs.declared.arch.Arch.{Arch}
 use Rattle.std.specs.Prelude.{IfOk}
 use Rattle.compare.specs.Told.{IsBundle, IsCompared}

@@ -1,5 +1,6 @@
-use Rattle.std.proofs.Common.{◌∙◌, ap, length, sym}
+use Rattle.std.proofs.Common.{◌≡◌, ◌∙◌, [], List, ap, length, sym}
 use Rattle.std.proofs.lemmas.Bool.{eqb-false}
+use Rattle.compare.specs.declared.change.Change.{Change}
 use Rattle.compare.proofs.filters.outcome.are_none.Goals as goal
 
 pub returns : goal.returns
