@@ -1,3 +1,3 @@
 pub mod PairLaws
-pub mod PassingLaws
+pub mod UnlikeLaws
 pub mod CallLaws

@@ -1,5 +1,5 @@
-//! Calls that get past a profile by bits that the kernel does not read, decided for each call: by a walk through its
-//! arguments.
+//! Calls that get past a profile, or are stopped by it, by bits that the kernel does not read. It is decided for each call, by a walk through
+//! its arguments.
 #![tactic(auto)]
 
 mod calls;
