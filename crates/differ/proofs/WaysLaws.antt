@@ -43,9 +43,12 @@ masks_more conds n f w v is le small =
 pub beyond_more : (most w x : ℕ) → most < w → w ≤ x → most < x
 beyond_more most w x lt le = omega arith
 
-pub ways_small : (count by_masks ways m n : ℕ) → count ≤ m → by_masks ≤ n → ways ≤ (64 * count + 1) * by_masks → ways ≤ (64 * m + 1) * n
-ways_small count by_masks ways m n few few_masks le =
-    let product : (64 * count + 1) * by_masks ≤ (64 * m + 1) * n = mul-le (64 * count + 1) by_masks (64 * m + 1) n (omega arith) few_masks in
+pub ways_small : (count masks by_masks ways m k n : ℕ) → count ≤ m → masks ≤ k → by_masks ≤ n → ways ≤ (64 * count + 1) * ((masks + 1) * by_masks)
+    → ways ≤ (64 * m + 1) * ((k + 1) * n)
+ways_small count masks by_masks ways m k n few few_masks few_ways le =
+    let asked : (masks + 1) * by_masks ≤ (k + 1) * n = mul-le (masks + 1) by_masks (k + 1) n (omega arith) few_ways in
+    let product : (64 * count + 1) * ((masks + 1) * by_masks) ≤ (64 * m + 1) * ((k + 1) * n) =
+    mul-le (64 * count + 1) ((masks + 1) * by_masks) (64 * m + 1) ((k + 1) * n) (omega arith) asked in
     omega arith
 
 le_through : (a b c : ℕ) → a ≤ b → b ≤ c → a ≤ c

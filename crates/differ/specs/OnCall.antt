@@ -93,22 +93,31 @@ ways_by_masks conds (suc n) = (if list_any (has_bit n) conds then 2 else 1) * wa
 abbrev pub comparisons : List Cond → ℕ
 comparisons conds = length (filter (λ c. not (is_masked c.op)) conds)
 
+-- how many of the conditions are under a mask
+abbrev pub masks : List Cond → ℕ
+masks conds = length (filter (λ c. is_masked c.op) conds)
+
 -- In how many ways an argument is answered at most. Each of its 64 bits may be where it departs from a number that it is compared with.
+-- What is under masks is asked of each mask.
 unfoldable pub ways_on : List Cond → ℕ
-ways_on conds = (64 * comparisons conds + 1) * ways_by_masks conds 64
+ways_on conds = (64 * comparisons conds + 1) * ((masks conds + 1) * ways_by_masks conds 64)
 
 -- the product of those of the first n arguments
 abbrev pub ways_of : Policy → Policy → ℕ → ℕ → ℕ → ℕ
 ways_of p q token nr zero = 1
 ways_of p q token nr (suc n) = ways_on (conditions_of p q token nr n) * ways_of p q token nr n
 
--- how many ways are walked through, however long that takes
+-- how many combinations are looked at
 abbrev pub most_combinations : ℕ
 most_combinations = 1048576
 
+-- how many ways are walked through, however long that takes
+abbrev pub most_ways : ℕ
+most_ways = 4194304
+
 -- the six arguments are answered in more ways than that
 abbrev pub AreCrowded : Policy → Policy → ℕ → ℕ → Type 0
-AreCrowded p q token nr = most_combinations < ways_of p q token nr 6
+AreCrowded p q token nr = most_ways < ways_of p q token nr 6
 
 abbrev pub IsUnsettled : Policy → Policy → ℕ → ℕ → Unlisted → Type 0
 IsUnsettled p q token nr TooMany = AreCrowded p q token nr

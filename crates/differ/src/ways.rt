@@ -1,14 +1,17 @@
 //! In how many ways the arguments of a call are answered.
 ghost use Rattle.std.specs.Prelude.{◌≡◌, ◌==◌, ◌*◌, ◌+◌, ◌≤◌, ◌<◌, ◌&&◌, not, true, filter, length, IfOk, if◌then◌else◌};
 ghost use Rattle.std.specs.List.{list_any};
-ghost use Rattle.differ.specs.OnCall.{AreCrowded, comparisons, has_bit, is_masked, rules_for, ways_by_masks, ways_on};
+ghost use Rattle.differ.specs.OnCall.{AreCrowded, comparisons, has_bit, is_masked, masks, rules_for, ways_by_masks, ways_on};
 
 use crate::opened::{Open, conditions_at};
 use profile::{Cond, Op, Profile};
 use std::alloc::{AllocError, Global};
 
-/// How many ways are walked through, however long that takes.
+/// How many combinations are looked at.
 pub const MOST_COMBINATIONS: usize = 1_048_576;
+
+/// How many ways are walked through, however long that takes.
+pub const MOST_WAYS: usize = 4_194_304;
 
 fn is_masked(op: Op) -> bool
     ensures { result ≡ is_masked op }
@@ -68,12 +71,26 @@ fn comparisons(conds: &[Cond]) -> usize
     count
 }
 
+// At most so many conditions are under a mask.
+fn masks(conds: &[Cond]) -> usize
+    ensures { result ≤ masks conds.now }
+{
+    let mut count: usize = 0;
+    for cond in conds {
+        if is_masked(cond.op) {
+            count += 1;
+        }
+    }
+    count
+}
+
 // At most the ways of one argument.
 fn ways_on(conds: &[Cond]) -> usize
     ensures { result ≤ ways_on conds.now }
 {
     let compared = comparisons(conds).saturating_mul(64).saturating_add(1);
-    compared.saturating_mul(ways_by_masks(conds))
+    let masked = masks(conds).saturating_add(1);
+    compared.saturating_mul(masked.saturating_mul(ways_by_masks(conds)))
 }
 
 /// Whether the arguments of a call are answered in more ways than are walked through without a limit.
@@ -94,5 +111,5 @@ pub(crate) fn are_crowded(
         let conds = conditions_at(alloc, held, index)?;
         ways = ways_on(&conds).saturating_mul(ways);
     }
-    Ok(ways > MOST_COMBINATIONS)
+    Ok(ways > MOST_WAYS)
 }

@@ -251,10 +251,10 @@ pub(crate) fn counts(
         return true;
     }
     if let Some(filter) = entry.get("includes") {
-        tell_filter(changes, settings, place.key("includes"), filter);
+        tell_filter(changes, settings, place.filter("includes"), filter);
     }
     if let Some(filter) = entry.get("excludes") {
-        tell_filter(changes, settings, place.key("excludes"), filter);
+        tell_filter(changes, settings, place.filter("excludes"), filter);
     }
     counts_for(changes, settings.native, container, place, entry)
 }

@@ -1,13 +1,14 @@
 //! Places in a configuration.
 use crate::text::Text;
 
-/// A place in a configuration: the section, an entry of it, a condition of the entry. Then a key of one of these, and a member
-/// of the list under the key. The section stands behind `top`, which is empty where it stands by itself.
+/// A place in a configuration: the section, an entry of it, a condition or a filter of the entry. Then a key of one of these, and
+/// a member of the list under the key. The section stands behind `top`, which is empty where it stands by itself.
 #[derive(Clone, Copy)]
 pub(crate) struct Place<'a> {
     top: &'static str,
     entry: Option<usize>,
     condition: Option<usize>,
+    filter: Option<&'static str>,
     key: &'a str,
     member: Option<usize>,
 }
@@ -19,6 +20,7 @@ impl<'a> Place<'a> {
             top,
             entry: None,
             condition: None,
+            filter: None,
             key: "",
             member: None,
         }
@@ -40,12 +42,21 @@ impl<'a> Place<'a> {
         }
     }
 
+    /// A filter of the entry: what stands under `includes` or `excludes`.
+    pub(crate) fn filter(self, filter: &'static str) -> Place<'a> {
+        Place {
+            filter: Some(filter),
+            ..self
+        }
+    }
+
     /// A key of the object.
     pub(crate) fn key<'b>(self, key: &'b str) -> Place<'b> {
         Place {
             top: self.top,
             entry: self.entry,
             condition: self.condition,
+            filter: self.filter,
             key,
             member: self.member,
         }
@@ -60,7 +71,7 @@ impl<'a> Place<'a> {
     }
 }
 
-// Each of the next four adds a part of a place, if it is there.
+// Each of the next five adds a part of a place, if it is there.
 
 fn put_entry(text: &mut Text, entry: Option<usize>) {
     if let Some(entry) = entry {
@@ -71,6 +82,12 @@ fn put_entry(text: &mut Text, entry: Option<usize>) {
 fn put_condition(text: &mut Text, condition: Option<usize>) {
     if let Some(condition) = condition {
         text.put(format_args!(".args[{condition}]"));
+    }
+}
+
+fn put_filter(text: &mut Text, filter: Option<&str>) {
+    if let Some(filter) = filter {
+        text.put(format_args!(".{filter}"));
     }
 }
 
@@ -112,6 +129,7 @@ pub(crate) fn put_place(text: &mut Text, place: Place<'_>) {
     text.put(place.top);
     put_entry(text, place.entry);
     put_condition(text, place.condition);
+    put_filter(text, place.filter);
     put_key(text, place);
     put_member(text, place.member);
 }

@@ -7,10 +7,12 @@ use Rattle.profile.specs.Rule.{argument_of}
 use Rattle.profile.specs.Said.{said}
 use Rattle.profile.proofs.SaidLaws.{each_record_is_said_one_verdict}
 use Rattle.differ.specs.OnCall.{IsOfCall, is_for}
+use Rattle.differ.specs.declared.direction.Direction.{Direction}
 use Rattle.differ.proofs.OpenLaws.{said_named}
+use Rattle.differ.proofs.StepLaws.{tells_same}
 use Rattle.widths.specs.Reads.{read_bits}
 use Rattle.widths.proofs.WidthLaws.{compared_cleared, compared_read}
-use Rattle.unread_bits.specs.Past.{NoneGetsPast}
+use Rattle.unread_bits.specs.Past.{AreLikeOnCall}
 use Rattle.unread_bits.specs.inner.Pair.{IsPair}
 
 pub of_cleared : (token nr : ℕ) (r s : List ℕ) → IsPair token nr r s → IsOfCall token nr s
@@ -30,9 +32,11 @@ cleared_low token nr j low r s lt is pair =
 
 -- ---- no rule
 
-pub kept_unnamed : (p : Policy) (token nr : ℕ) → IsClear p.rules → list_any (is_for token nr) p.rules ≡ false → NoneGetsPast p token nr
-kept_unnamed p token nr clear unnamed = λ r of s rec cleared (w, says, through).
+pub like_unnamed : (p : Policy) (d : Direction) (token nr : ℕ) → IsClear p.rules → list_any (is_for token nr) p.rules ≡ false
+    → AreLikeOnCall p token nr d
+like_unnamed p d token nr clear unnamed = λ r of s rec cleared v w says_v says_w.
     let of_s : IsOfCall token nr s = of_cleared token nr r s (record { of_call = of; is_record = rec; cleared = cleared }) in
-    let same : said p r ≡ said p s = said_named p token nr r of unnamed ∙ sym (said_named p token nr s of_s unnamed) in
-    let is : w ≡ said p r = (each_record_is_said_one_verdict p r w clear of.is_record).0 says in
-    (w, (each_record_is_said_one_verdict p s w clear rec).1 (is ∙ same), through)
+    let one : v ≡ said p r = (each_record_is_said_one_verdict p r v clear of.is_record).0 says_v in
+    let other : w ≡ said p s = (each_record_is_said_one_verdict p s w clear rec).0 says_w in
+    let same : v ≡ w = one ∙ said_named p token nr r of unnamed ∙ sym (other ∙ said_named p token nr s of_s unnamed) in
+    tells_same d v w same

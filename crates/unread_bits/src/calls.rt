@@ -1,4 +1,4 @@
-//! All calls that get past a profile.
+//! All calls of which a profile says unlike verdicts by bits that are not read.
 ghost use Rattle.std.specs.Prelude.{◌≡◌, ◌++◌, ◌∷◌, [], ℕ, true, IfOk};
 ghost use Rattle.unread_bits.specs.Past.{AreAllPast, AreTold, IsAnswered};
 ghost use Rattle.unread_bits.specs.inner.Extended.{Extends};
@@ -7,14 +7,14 @@ ghost use Rattle.differ.specs.Named.{is_named};
 use crate::named::calls_of;
 use crate::on_call::past_on;
 use crate::past::Past;
-use differ::{Call, Unlisted};
+use differ::{Call, Direction, Unlisted};
 use profile::Profile;
 use std::alloc::{AllocError, Global};
 
-/// Calls that get past a profile, and calls of which it is not decided.
+/// Calls of which a profile says unlike verdicts in a direction, and calls of which it is not decided.
 #[derive(Drop)]
 pub struct AllPast {
-    /// Of each call one that gets past, if one does.
+    /// Of each call one such, if there is one.
     pub found: Vec<Past>,
     /// The calls that are crowded.
     pub crowded: Vec<Call>,
@@ -36,18 +36,19 @@ fn add_crowded(all: &mut AllPast, call: Call) -> Result<(), AllocError>
     Ok(())
 }
 
-// Adds what gets past of a call.
+// Adds what is unlike of a call.
 fn add_call(
     alloc: Global,
     profile: &Profile,
     call: &Call,
+    direction: Direction,
     all: &mut AllPast,
 ) -> Result<(), AllocError>
-    ensures told { AreTold profile.now all.old → IfOk result (λ _. AreTold profile.now all.new) }
+    ensures told { AreTold profile.now direction all.old → IfOk result (λ _. AreTold profile.now direction all.new) }
     ensures extends { IfOk result (λ _. Extends all.old all.new) }
-    ensures answered { IfOk result (λ _. IsAnswered profile.now all.new call.now.token call.now.nr) }
+    ensures answered { IfOk result (λ _. IsAnswered profile.now direction all.new call.now.token call.now.nr) }
 {
-    match past_on(alloc, profile, call.token, call.nr) {
+    match past_on(alloc, profile, call.token, call.nr, direction) {
         Ok(None) => Ok(()),
         Ok(Some(past)) => {
             add_found(all, past)?;
@@ -66,20 +67,26 @@ fn add_each(
     alloc: Global,
     profile: &Profile,
     list: &[Call],
+    direction: Direction,
     all: &mut AllPast,
 ) -> Result<(), AllocError>
-    ensures told { AreTold profile.now all.old → IfOk result (λ _. AreTold profile.now all.new) }
-    ensures answered { (t n : ℕ) → is_named list.now t n ≡ true → IfOk result (λ _. IsAnswered profile.now all.new t n) }
+    ensures told { AreTold profile.now direction all.old → IfOk result (λ _. AreTold profile.now direction all.new) }
+    ensures answered { (t n : ℕ) → is_named list.now t n ≡ true → IfOk result (λ _. IsAnswered profile.now direction all.new t n) }
 {
     for call in list {
-        add_call(alloc, profile, call, all)?;
+        add_call(alloc, profile, call, direction, all)?;
     }
     Ok(())
 }
 
-/// All calls that get past a profile, of those that a rule is for. No other call does.
-pub fn all_past(alloc: Global, profile: &Profile) -> Result<AllPast, AllocError>
-    ensures { IfOk result (AreAllPast profile.now) }
+/// All calls that a rule is for and of which a profile says another verdict than of the same call with the bits at 0 that are not read, where the
+/// two are unlike in a direction. So are no other calls.
+pub fn all_past(
+    alloc: Global,
+    profile: &Profile,
+    direction: Direction,
+) -> Result<AllPast, AllocError>
+    ensures { IfOk result (AreAllPast profile.now direction) }
 {
     let rules = profile.rules();
     let list = calls_of(alloc, rules)?;
@@ -87,6 +94,6 @@ pub fn all_past(alloc: Global, profile: &Profile) -> Result<AllPast, AllocError>
         found: Vec::new(alloc),
         crowded: Vec::new(alloc),
     };
-    add_each(alloc, profile, &list, &mut all)?;
+    add_each(alloc, profile, &list, direction, &mut all)?;
     Ok(all)
 }

@@ -1,8 +1,8 @@
-//! Whether a call gets past a profile.
+//! Whether a profile says unlike verdicts of a call by bits that are not read.
 ghost use Rattle.std.specs.Prelude.{◌≡◌, ◌∷◌, [], IfOk, IfErr, IfSome, IfNone};
 ghost use Rattle.widths.specs.Reads as reads;
 ghost use Rattle.unread_bits.specs.Crowded.{IsUnsettled};
-ghost use Rattle.unread_bits.specs.Past.{IsPastOf, NoneGetsPast};
+ghost use Rattle.unread_bits.specs.Past.{AreLikeOnCall, IsUnlikeOf};
 
 use crate::past::{Past, past_by};
 use crate::sides::side_of;
@@ -48,39 +48,32 @@ fn record_of(token: u32, nr: u32, args: [u64; 6]) -> Record
     }
 }
 
-/// A call with a token and a number that gets past a profile by bits that are not read; `None` where no such call does.
+/// A call with a token and a number of which a profile says another verdict than of the same call with the bits at 0 that are not read, where
+/// the two are unlike in a direction; `None` where there is none.
 pub fn past_on(
     alloc: Global,
     profile: &Profile,
     token: u32,
     nr: u32,
+    direction: Direction,
 ) -> Result<Option<Past>, Unlisted>
-    ensures past { IfOk result (λ found. IfSome found (IsPastOf profile.now token nr)) }
-    ensures none { IfOk result (λ found. IfNone found (NoneGetsPast profile.now token nr)) }
+    ensures past { IfOk result (λ found. IfSome found (IsUnlikeOf profile.now token nr direction)) }
+    ensures none { IfOk result (λ found. IfNone found (AreLikeOnCall profile.now token nr direction)) }
     ensures unsettled { IfErr result (IsUnsettled profile.now token nr) }
 {
     profile.rules();
     let whole = all_bits();
     let read = reads_of(token, nr);
-    let one = side_of(alloc, profile, token, nr, &whole)?;
-    let other = side_of(alloc, profile, token, nr, &read)?;
+    let one = side_of(alloc, profile, token, nr, &whole, direction)?;
+    let other = side_of(alloc, profile, token, nr, &read, direction)?;
     let mut memory = memory_for(alloc, profile, profile, token, nr)?;
     let bits = bits_of(token);
-    match unlike_at(
-        alloc,
-        Direction::Less,
-        one,
-        other,
-        0,
-        bits,
-        bits,
-        &mut memory,
-    )? {
+    match unlike_at(alloc, direction, one, other, 0, bits, bits, &mut memory)? {
         None => Ok(None),
         Some(args) => {
             let call = record_of(token, nr, args);
             words_are_a_record(&call);
-            Ok(past_by(profile, &call))
+            Ok(past_by(profile, &call, direction))
         }
     }
 }

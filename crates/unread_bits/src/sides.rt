@@ -1,4 +1,4 @@
-//! Whether a profile lets a call through, by the lowest bits of its arguments.
+//! How far a call goes by a profile, by the lowest bits of its arguments.
 ghost use Rattle.std.specs.Prelude.{◌≡◌, ◌==◌, ℕ, List, IfOk, if◌then◌else◌};
 ghost use Rattle.std.specs.List.{list_all, list_any};
 ghost use Rattle.machines.specs.Numbers.{has_call};
@@ -7,10 +7,10 @@ ghost use Rattle.profile.specs.Said.{meets, said};
 ghost use Rattle.differ.specs.Left.{are_met, holds_of, side_says};
 ghost use Rattle.differ.specs.OnCall.{IsOfCall, is_for};
 ghost use Rattle.differ.specs.inner.Sides.{said_from};
-ghost use Rattle.unread_bits.specs.inner.Read.{AreRead, passing};
+ghost use Rattle.unread_bits.specs.inner.Read.{AreRead, seen_of, verdict_of};
 
-use call_record::{Word, lets_through};
-use differ::{Ask, Part, Rest, Side, add_rest};
+use call_record::{Fate, Word};
+use differ::{Ask, Direction, Part, Rest, Side, add_rest};
 use profile::{Cond, Profile, Rule, are_for};
 use std::alloc::{AllocError, Global};
 
@@ -20,14 +20,25 @@ fn is_for(rule: &Rule, token: u32, nr: u32) -> bool
     token == rule.arch.token() && nr == rule.nr
 }
 
-// One verdict for all that let a call through, and one for all others.
-fn passing(word: Word) -> Word
-    ensures { result ≡ passing word }
+// One verdict for all by which a call goes equally far.
+fn verdict_of(fate: Fate) -> Word
+    ensures { result ≡ verdict_of fate }
 {
-    if lets_through(word) {
-        return Word::ALLOW;
+    match fate {
+        Fate::Refused => Word::KILL_THREAD,
+        Fate::Left => Word::USER_NOTIF,
+        Fate::LetThrough => Word::ALLOW,
     }
-    Word::KILL_THREAD
+}
+
+// What is looked at of a verdict: where any others are looked for all of it, and else how far a call goes by it.
+fn seen_of(direction: Direction, word: Word) -> Word
+    ensures { result ≡ seen_of direction word }
+{
+    match direction {
+        Direction::Any => word,
+        Direction::More | Direction::Less => verdict_of(word.fate()),
+    }
 }
 
 // What a condition asks of the bits that are looked at.
@@ -58,16 +69,22 @@ fn parts_of(alloc: Global, conds: &[Cond], reads: &[u32; 6]) -> Result<Vec<Part>
 }
 
 // Adds a rule of a profile, before those that are there.
-fn add_rule(alloc: Global, side: &mut Side, rule: &Rule, reads: &[u32; 6]) -> Result<(), AllocError>
+fn add_rule(
+    alloc: Global,
+    side: &mut Side,
+    rule: &Rule,
+    reads: &[u32; 6],
+    direction: Direction,
+) -> Result<(), AllocError>
     ensures { IfOk result (λ _. (a b : ℕ → ℕ) → AreRead reads.now a b → side_says side.new a
-        ≡ (if list_all (λ c. meets c (b c.index)) rule.now.conds.items then passing rule.now.word else side_says side.old a)) }
+        ≡ (if list_all (λ c. meets c (b c.index)) rule.now.conds.items then seen_of direction rule.now.word else side_says side.old a)) }
 {
     let parts = parts_of(alloc, rule.conds.as_slice(), reads)?;
     add_rest(
         side,
         Rest {
             parts,
-            word: passing(rule.word),
+            word: seen_of(direction, rule.word),
         },
     )
 }
@@ -80,15 +97,16 @@ fn add_rules(
     token: u32,
     nr: u32,
     reads: &[u32; 6],
+    direction: Direction,
 ) -> Result<(), AllocError>
     ensures { IfOk result (λ _. (d : ℕ) (r s : List ℕ) → IsOfCall token nr s → AreRead reads.now (argument_of r) (argument_of s)
-        → side_says side.old (argument_of r) ≡ passing d → side_says side.new (argument_of r) ≡ passing (said_from d rules.now s)) }
+        → side_says side.old (argument_of r) ≡ seen_of direction d → side_says side.new (argument_of r) ≡ seen_of direction (said_from d rules.now s)) }
 {
     let mut place = rules.len();
     while place > 0 {
         place -= 1;
         if is_for(&rules[place], token, nr) {
-            add_rule(alloc, side, &rules[place], reads)?;
+            add_rule(alloc, side, &rules[place], reads, direction)?;
         }
     }
     Ok(())
@@ -101,27 +119,36 @@ fn is_native(profile: &Profile, token: u32, nr: u32) -> bool
     are_for(profile.machines(), token, nr)
 }
 
-/// Which records of a call are let through, by so many of the lowest bits of their arguments.
+/// How far the records of a call go, by so many of the lowest bits of their arguments.
 pub(crate) fn side_of(
     alloc: Global,
     profile: &Profile,
     token: u32,
     nr: u32,
     reads: &[u32; 6],
+    direction: Direction,
 ) -> Result<Side, AllocError>
     ensures { IfOk result (λ side. (r s : List ℕ) → IsOfCall token nr s → AreRead reads.now (argument_of r) (argument_of s)
-        → side_says side (argument_of r) ≡ passing (said profile.now s)) }
+        → side_says side (argument_of r) ≡ seen_of direction (said profile.now s)) }
 {
     if !is_native(profile, token, nr) {
         return Ok(Side {
             rules: Vec::new(alloc),
-            last: Word::KILL_THREAD,
+            last: seen_of(direction, Word::KILL_THREAD),
         });
     }
     let mut side = Side {
         rules: Vec::new(alloc),
-        last: passing(profile.default_word()),
+        last: seen_of(direction, profile.default_word()),
     };
-    add_rules(alloc, &mut side, profile.rules(), token, nr, reads)?;
+    add_rules(
+        alloc,
+        &mut side,
+        profile.rules(),
+        token,
+        nr,
+        reads,
+        direction,
+    )?;
     Ok(side)
 }

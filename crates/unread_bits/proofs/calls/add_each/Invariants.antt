@@ -5,6 +5,6 @@ use Rattle.unread_bits.proofs.calls.add_each.Given as goal
 
 abbrev pub invariant-loop-call : goal.invariant-loop-call
 invariant-loop-call l = record {
-  told : AreTold l.profile l.initial.all → AreTold l.profile l.all;
-  answered : All (λ call. IsAnswered l.profile l.all call.token call.nr) (take l.call-index l.list);
+  told : AreTold l.profile l.direction l.initial.all → AreTold l.profile l.direction l.all;
+  answered : All (λ call. IsAnswered l.profile l.direction l.all call.token call.nr) (take l.call-index l.list);
 }

@@ -4,18 +4,19 @@ use Rattle.differ.specs.OnCall.{is_for}
 use Rattle.differ.specs.declared.named.Call.{Call}
 use Rattle.differ.specs.Named.{is_named}
 use Rattle.unread_bits.specs.Past.{IsAnswered}
-use Rattle.unread_bits.proofs.CallLaws.{none_told, nothing_past}
+use Rattle.unread_bits.proofs.CallLaws.{none_told, nothing_unlike}
 use Rattle.unread_bits.proofs.calls.all_past.Goals as goal
 
 pub returns : goal.returns
 returns c =
     let p = c.args.profile.now in
-    let complete : (t n : ℕ) → list_any (is_for t n) p.rules ≡ true → IsAnswered p c.add_each.new.all t n = λ t n named.
+    let d = c.args.direction in
+    let complete : (t n : ℕ) → list_any (is_for t n) p.rules ≡ true → IsAnswered p d c.add_each.new.all t n = λ t n named.
     c.in_ok-add_each.ensures.answered t n
     (ap (λ (xs : List Call). is_named xs t n) c.deref.ensures.value
     ∙ c.in_ok-list.ensures t n (ap (list_any (is_for t n)) c.rules-rules.ensures.rules ∙ named)) in
     record {
-      told = c.in_ok-add_each.ensures.told (none_told p _ c.new.ensures.items c.new-2.ensures.items);
+      told = c.in_ok-add_each.ensures.told (none_told p d _ c.new.ensures.items c.new-2.ensures.items);
       complete = complete;
-      others = nothing_past p c.add_each.new.all c.rules-rules.ensures.is_profile.clear complete;
+      others = nothing_unlike p d c.add_each.new.all c.rules-rules.ensures.is_profile.clear complete;
     }

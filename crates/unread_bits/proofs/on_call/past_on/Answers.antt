@@ -1,8 +1,7 @@
 use Rattle.std.proofs.Common.{◌≡◌, ℕ, List, Err, get_or, rules}
 use Rattle.differ.specs.Left.{AreNeverUnlike, AreUnlikeAt}
-use Rattle.differ.specs.declared.direction.Direction.TheVariants.{Less}
 use Rattle.differ.proofs.WalkLaws.{none_weaker}
-use Rattle.unread_bits.proofs.PassingLaws.{never_past, past_not_kept, unsettled_from}
+use Rattle.unread_bits.proofs.UnlikeLaws.{never_unlike, unlike_not_like, unsettled_from}
 use Rattle.unread_bits.proofs.on_call.past_on.Goals as goal
 
 pub returns-in_err-unlike_at-clause-unsettled : goal.returns-in_err-unlike_at-clause-unsettled
@@ -14,19 +13,19 @@ returns-in_err-unlike_at-clause-unsettled c =
 
 pub returns-in-None-clause-none : goal.returns-in-None-clause-none
 returns-in-None-clause-none c =
-    let never : AreNeverUnlike Less c.bits_of-bits.result 0 c.bits_of-bits.result c.in_ok-one.one c.in_ok-other.other =
+    let never : AreNeverUnlike c.args.direction c.bits_of-bits.result 0 c.bits_of-bits.result c.in_ok-one.one c.in_ok-other.other =
     rw c.in-None.is at c.in_ok-unlike_at.ensures.none in
-    never_past c.args.profile.now c.args.token c.args.nr c.bits_of-bits.result c.in_ok-one.one c.in_ok-other.other c.all_bits-whole.result
+    never_unlike c.args.profile.now c.args.token c.args.nr c.args.direction c.bits_of-bits.result c.in_ok-one.one c.in_ok-other.other c.all_bits-whole.result
     c.reads_of-read.result c.rules.ensures.is_profile.clear c.bits_of-bits.ensures.is c.all_bits-whole.ensures c.reads_of-read.ensures
     c.in_ok-one.ensures c.in_ok-other.ensures never
 
 pub returns-clause-none : goal.returns-clause-none
 returns-clause-none c =
     let args : List ℕ = c.in-Some.args in
-    let found : AreUnlikeAt Less c.bits_of-bits.result 0 c.bits_of-bits.result c.in_ok-one.one c.in_ok-other.other (λ i. get_or args i 0) =
+    let found : AreUnlikeAt c.args.direction c.bits_of-bits.result 0 c.bits_of-bits.result c.in_ok-one.one c.in_ok-other.other (λ i. get_or args i 0) =
     rw c.in-Some.is at c.in_ok-unlike_at.ensures.found in
-    none_weaker c.past_by.result _ _ (λ keeps. absurd (
-    past_not_kept c.args.profile.now c.args.token c.args.nr c.bits_of-bits.result c.in_ok-one.one c.in_ok-other.other c.all_bits-whole.result
+    none_weaker c.past_by.result _ _ (λ like. absurd (
+    unlike_not_like c.args.profile.now c.args.token c.args.nr c.args.direction c.bits_of-bits.result c.in_ok-one.one c.in_ok-other.other c.all_bits-whole.result
     c.reads_of-read.result c.record_of-call.result args c.rules.ensures.is_profile.clear c.bits_of-bits.ensures.is c.all_bits-whole.ensures
     c.reads_of-read.ensures c.in_ok-one.ensures c.in_ok-other.ensures c.record_of-call.ensures.arch c.record_of-call.ensures.nr
-    c.record_of-call.ensures.args c.words_are_a_record.ensures found keeps)) c.past_by.ensures.none
+    c.record_of-call.ensures.args c.words_are_a_record.ensures found like)) c.past_by.ensures.none
