@@ -25,7 +25,15 @@ crun crun
 runc runc
 qemu-user qemu-aarch64
 TABLE
+    missing_for_coq
     ldconfig -p 2>/dev/null | grep -q 'libseccomp\.so\.2' || echo libseccomp2
+}
+
+# Prints the packages that tests/coq wants besides, as far as they are missing.
+missing_for_coq() {
+    command -v make >/dev/null || echo make
+    command -v coqc >/dev/null || echo coq
+    command -v ocamlopt >/dev/null || echo ocaml-nox
 }
 
 # Prints the packages of servers, engines and languages that parts of ./test try, as far as they are missing. Some begin to run a service
@@ -42,6 +50,13 @@ docker.io dockerd
 golang-go go
 rustc rustc
 TABLE
+}
+
+# Fetches into the user's cache what tests/linux and tests/readers compile: Linux's source and the engines' packages. Needs no root. What
+# cannot be had is told by these tests.
+fetch_for_tests() {
+    tests/linux --fetch >&2 || true
+    tests/readers --fetch >&2 || true
 }
 
 # Installs packages if this is root of a Debian. What is printed goes to standard error.

@@ -46,8 +46,6 @@ class Bench:
             self.program.certify(row, rest)
         elif kind == "behind":
             self.program.behind(row, rest)
-        elif kind == "tuned":
-            self.program.tuned(row, rest)
         elif kind == "flattened":
             self.program.flattened(row, rest)
         elif kind == "exported":

@@ -25,6 +25,21 @@ WRONG = {
         "Knowledge.v", "(v =? w) && within n m && (N.land d n =? e)", "(v =? w) && within m n && (N.land d n =? e)"),
     "no number is looked for from the middle up": ("Knowledge.v", "(negb asked || bit) && (h <=? hi)", "(negb asked || bit) && (h <? hi)"),
     "two words contradict each other": ("Knowledge.v", "(u =? w) && (v =? w) && negb", "(u =? w) && negb"),
+    "a word with one point determines no bits": (
+        "Knowledge.v", "Some (lo, hi) => (lo =? hi) && (N.land lo m =? d) | None => false end", "Some _ | None => false end"),
+    "a NotBits of other bits excludes nothing": (
+        "Knowledge.v", "(v =? w) && within n m && (N.land d n =? e)", "(v =? w) && (n =? m) && (d =? e)"),
+    "two Bits contradict each other under equal masks alone": (
+        "Knowledge.v", "(v =? w) && negb (N.land (N.land m n) (N.lxor d e) =? 0)", "(v =? w) && (m =? n) && negb (d =? e)"),
+    "Dead: a number with all known bits is not looked for": (
+        "Knowledge.v", "  || missed literals w (mask_of literals w) (datum_of literals w)\n", ""),
+    "sharp JGT: nothing is told of a mask whose lowest bit is above c": (
+        "Knowledge.v", "else if c <? lowest m then Some (any_fact w m taken)", "else if c <? 0 then Some (any_fact w m taken)"),
+    "a successor is not the next node": ("Rules.v", "if number <? goes e\n", "if number + 1 <? goes e\n"),
+    "the greatest argument has all bits of the lower half": ("Rules.v", "Some (lo + W * lo2, hi + W * hi2)", "Some (lo + W * lo2, all + W * hi2)"),
+    "several calls: no more than one rule": ("Rules.v", "all_said p v m (rules p) lo hi", "all_said p v m [] lo hi"),
+    "a datum may have bits outside the mask": (
+        "Bytes.v", "| 2 => need (within two one) BadNode (give (Knows (Bits w one two)))", "| 2 => give (Knows (Bits w one two))"),
     "a value follows from Unknown": (
         "Rules.v",
         "match there with Unknown => true | _ => same_value there here end",

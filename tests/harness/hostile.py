@@ -160,14 +160,13 @@ def of_bundle(dice, room):
     make = dice.choice([*SECTIONS, text])
     made = make(dice)
     path = put(room, "a.json", made if make is text else json.dumps(made))
-    command = dice.choice(["read", "lint", "review", "export", "explain", "adapt", "json read", "json lint", "tune", "learn", "run"])
+    command = dice.choice(["read", "lint", "review", "export", "explain", "adapt", "json read", "json lint", "learn", "run"])
     words = {
         "export": ["export", MACHINE, path, dice.choice(["raw", "cert", "listing"])],
         "explain": ["explain", MACHINE, path, "ioctl", "any"],
         "adapt": ["adapt", MACHINE, path, *dice.choice([[], ["narrow"], ["first"]])],
         "json read": ["json", "read", MACHINE, path],
         "json lint": ["json", "lint", MACHINE, path],
-        "tune": ["tune", MACHINE, path, put(room, "counts", "".join(f"{name} {n}\n" for n, name in enumerate(CALLS)))],
         "learn": ["learn", MACHINE, "from", path, put(room, "log", log(dice))],
     }.get(command, [command, MACHINE, path])
     return f"{command} {make.__name__}", words, b"create c b1\nstart c\n" * 100 if command == "run" else b""

@@ -1,4 +1,4 @@
-"""Servers in containers of podman, below each process 1 that `--init` may put before them, under what was learned of both."""
+"""Servers in containers of podman, below each process 1 that `--init` may put before them, under what was learned of them."""
 import glob
 import os
 import shutil
@@ -8,7 +8,7 @@ from collections import namedtuple
 from harness.engines import Podman
 from harness.places import CCELL
 
-# `learn .. for podman` has what catatonit calls, which runs as process 1 alone. What another calls stands in a log of its own.
+# `learn .. for podman` has what each of these calls.
 INITS = {"catatonit": "/usr/libexec/podman/catatonit", "tini": "/usr/bin/tini", "dumb-init": "/usr/bin/dumb-init"}
 POSTGRES = max(glob.glob("/usr/lib/postgresql/*/bin/postgres"), default="/usr/bin/postgres")
 NGINX = "daemon off; pid @/pid; error_log stderr; events {} http { access_log off; " + "".join(
@@ -65,23 +65,23 @@ class Bench:
         loop = f"for each in $(seq 300); do [ \"$({self.server.ask} 2>/dev/null)\" = hello ] && exit 0; sleep 0.2; done; exit 1"
         return subprocess.run(["sh", "-c", loop], stdin=subprocess.DEVNULL, capture_output=True, timeout=240, check=False).returncode == 0
 
-    def logged(self, *init):
-        """The log of the server, below a process 1 if one is given."""
-        path = f"{self.folder}/{len(init)}.log"
-        traced = subprocess.Popen([*self.as_user(), "strace", "-f", "-n", "-e", "raw=all", "-o", f"{self.data}/log", *init, *self.server.command],
+    def logged(self):
+        """The log of the server."""
+        path = f"{self.folder}/server.log"
+        traced = subprocess.Popen([*self.as_user(), "strace", "-f", "-n", "-e", "raw=all", "-o", f"{self.data}/log", *self.server.command],
                                   stdin=subprocess.DEVNULL, stdout=subprocess.DEVNULL, stderr=subprocess.DEVNULL, cwd=self.data)
         answered = self.answers()
         subprocess.run(["pkill", "-TERM", "-P", str(traced.pid)], check=False)
         traced.wait(60)
         if not answered:
-            raise RuntimeError(f"it does not answer under strace, below {init}")
+            raise RuntimeError("it does not answer under strace")
         shutil.move(f"{self.data}/log", path)
         return path
 
-    def first_wrong(self, name, init, logs):
+    def first_wrong(self, name, init, log):
         """Why the server does not answer below a process 1, under what was learned: nothing if it does."""
         with open(f"{self.folder}/section.json", "w", encoding="utf-8") as file:
-            file.write(self.ran([os.path.abspath(CCELL), "learn", "linux-x86-64", *logs, "for", "podman"]))
+            file.write(self.ran([os.path.abspath(CCELL), "learn", "linux-x86-64", log, "for", "podman"]))
         command = [self.engine.command, "run", "-d", "--name", name, "--init", "--init-path", init, "--user", self.server.user,
                    "--security-opt", f"seccomp={self.folder}/section.json", "--network", "host", "--cgroups", "disabled",
                    "--ulimit", "nofile=1024:1024", "--ulimit", "nproc=1024:1024", "-v", "/usr:/usr:ro", "-v", "/etc:/etc:ro",
@@ -104,13 +104,11 @@ def placed(part, folder):
 
 
 def tried(name, folder):
-    """For each process 1 that is installed why a server does not answer below it, under what was learned of the server alone for catatonit,
-    and for the others of the server below them."""
+    """For each process 1 that is installed why a server does not answer below it, under what was learned of the server alone."""
     bench = Bench(folder, name)
-    alone = bench.logged()
+    log = bench.logged()
     for each, path in INITS.items():
         if not os.path.exists(path):
             print(f"{name} below {each}: passed over, since there is no {path}")
             continue
-        logs = [alone] if each == "catatonit" else [alone, bench.logged(path, "--")]
-        yield each, bench.first_wrong(f"{name}-{each}-{os.getpid()}", path, logs)
+        yield each, bench.first_wrong(f"{name}-{each}-{os.getpid()}", path, log)

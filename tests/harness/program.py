@@ -78,18 +78,6 @@ class Program:
         checked = self.run(["check", *line.split(), "told"])
         row.tell(f"a certificate: {checked.stdout.decode().rstrip()}")
 
-    def tuned(self, row, line):
-        """Has it tune the filter of `MACHINE BUNDLE COUNTS`, and tells what stands on standard error, and whether the bytes are those of a
-        further file, if one is named, or else the line that was written."""
-        native, bundle, counts, *filters = line.split()
-        ran = self.run(["tune", native, bundle, counts])
-        row.tell(*lines_of(ran.stderr.decode()))
-        if filters:
-            row.tell("the same filter" if ran.stdout == self.shelf.bytes_of(filters[0]) else f"another filter: {ran.stdout.hex()}")
-        else:
-            row.tell(*lines_of(ran.stdout.decode()))
-        row.tell(f"status {ran.returncode}")
-
     def flattened(self, row, line):
         """Has it make one filter of `MACHINE FILTER.. as EXPECTED`, and tells whether the bytes are those of the last file."""
         *given, _, expected = line.split()

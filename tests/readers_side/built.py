@@ -88,11 +88,16 @@ def compiled_crun(room, suite, root, tree):
     return program
 
 
-def readers(room, fetches):
-    """All readers by their names: an engine and the number of its system."""
+def fetched(fetches):
+    """The folder of the packages, that of each suite's packages in it, and those of crun's sources."""
     folder = cache("readers")
     roots = {OLD: unpacked(folder, OLD, (*GO, *LIBRARIES, *OWN, *OTHERS), fetches), NEW: unpacked(folder, NEW, OWN, fetches)}
-    trees = {suite: source(folder, suite, "crun", fetches) for suite in SYSTEMS}
+    return folder, roots, {suite: source(folder, suite, "crun", fetches) for suite in SYSTEMS}
+
+
+def readers(room, fetches):
+    """All readers by their names: an engine and the number of its system."""
+    folder, roots, trees = fetched(fetches)
     env = {**os.environ, "LD_LIBRARY_PATH": f"{roots[OLD]}/usr/lib/x86_64-linux-gnu"}
     found = {}
     for suite, number in SYSTEMS.items():

@@ -2,8 +2,8 @@
 //!
 //! The kernel's tables of calls list them so: `arch/x86/entry/syscalls/syscall_64.tbl` and `syscall_32.tbl`,
 //! `scripts/syscall.tbl`, `arch/arm/tools/syscall.tbl`, `arch/powerpc/kernel/syscalls/syscall.tbl`,
-//! `arch/s390/kernel/syscalls/syscall.tbl`. Those of s390 are of Linux 6.12. The later half stands in
-//! `linux_calls_later`.
+//! `arch/s390/kernel/syscalls/syscall.tbl`. Those of s390 are of Linux 6.12, and from 463 on of libseccomp 2.6.1.
+//! The later half stands in `linux_calls_later`.
 
 /// Stands where a machine has no call of the name. No call has this number.
 pub(crate) const NONE: u32 = u32::MAX;
@@ -330,11 +330,11 @@ pub(crate) const FIRST_CALLS: &[(&str, [u32; 10])] = &[
     ),
     (
         "file_getattr",
-        [468, 468, 0x4000_01d4, 468, 468, 468, 468, 468, 468, NONE],
+        [468, 468, 0x4000_01d4, 468, 468, 468, 468, 468, 468, 468],
     ),
     (
         "file_setattr",
-        [469, 469, 0x4000_01d5, 469, 469, 469, 469, 469, 469, NONE],
+        [469, 469, 0x4000_01d5, 469, 469, 469, 469, 469, 469, 469],
     ),
     (
         "finit_module",
@@ -605,7 +605,7 @@ pub(crate) const SECOND_CALLS: &[(&str, [u32; 10])] = &[
     ),
     (
         "getxattrat",
-        [464, 464, 0x4000_01d0, 464, 464, 464, 464, 464, 464, NONE],
+        [464, 464, 0x4000_01d0, 464, 464, 464, 464, 464, 464, 464],
     ),
     (
         "gtty",
@@ -782,7 +782,7 @@ pub(crate) const SECOND_CALLS: &[(&str, [u32; 10])] = &[
     ),
     (
         "listxattrat",
-        [465, 465, 0x4000_01d1, 465, 465, 465, 465, 465, 465, NONE],
+        [465, 465, 0x4000_01d1, 465, 465, 465, 465, 465, 465, 465],
     ),
     (
         "llistxattr",

@@ -9,7 +9,7 @@ use denote.Ref.{Bor}
 use Rattle.command_line.specs.declared.prose.Command.{Command}
 use Rattle.command_line.specs.declared.prose.Command.TheVariants.{Verdict, Check, Certify, Export, Run, Explain, Record, Assemble}
 use Rattle.command_line.specs.declared.prose.Command.TheVariants.{Read, Annotate, Draw, Lint, Compare, Adapt, Learn}
-use Rattle.command_line.specs.declared.prose.Command.TheVariants.{Replay, Recover, Tune, Join, Meet, Stack, Flatten, Review}
+use Rattle.command_line.specs.declared.prose.Command.TheVariants.{Replay, Recover, Join, Meet, Stack, Flatten, Review}
 use Rattle.command_line.specs.declared.prose.Command.TheVariants.{Json, Manual, Version}
 use Rattle.aside.specs.declared.leave.Leave.{Leave}
 use Rattle.aside.specs.Told.{CertifiesBut}
@@ -47,7 +47,6 @@ use Rattle.cli.specs.Read.{TellsLinted, TellsRead, TellsRules}
 use Rattle.cli.specs.Refusal.{is_refusal}
 use Rattle.cli.specs.Remarked.{RemarksBy}
 use Rattle.cli.specs.Recovered.{TellsAsked, has_word}
-use Rattle.cli.specs.Tuned.{TellsTuned}
 use Rattle.review.specs.Reviewed.{IsReviewed}
 use Rattle.cli.specs.Combined.{TellsCombined, TellsStack}
 use Rattle.cli.specs.Flat.{TellsFlat}
@@ -129,13 +128,12 @@ abbrev pub asks_but : Parts → Bool
 asks_but p = (leave_of p).unnamed || (leave_of p).x32
 
 -- These commands tell something on standard error even if they were done: `adapt` and `learn` what they changed or added; `recover`,
--- `join`, `meet` and `stack` which form was written, or why none was; `tune` what calls cost; `certify` with `runc` what the stub answers.
+-- `join`, `meet` and `stack` which form was written, or why none was; `certify` with `runc` what the stub answers.
 abbrev pub TellsChanges : Command → Parts → Type 0
 TellsChanges Certify p = asks_runc p ≡ true
 TellsChanges Adapt p = Unit {0}
 TellsChanges Learn p = Unit {0}
 TellsChanges Recover p = Unit {0}
-TellsChanges Tune p = Unit {0}
 TellsChanges Join p = Unit {0}
 TellsChanges Meet p = Unit {0}
 TellsChanges Stack p = Unit {0}
@@ -290,7 +288,7 @@ module _ {O : Type 0} (held : O → Option (List ℕ)) (failures : O → Failure
   -- what `compare` tells, by whether `filters` stands behind the files
   abbrev pub AnswersCompare : Bool → Parts → Result Bool Stop → Type 0
   AnswersCompare true p result =
-      AnswersTold (p.two ∷ p.three ∷ []) (of_two (λ old new. IsTold (read_as p.native old) (read_as p.native new))) result
+      AnswersTold (p.two ∷ p.three ∷ []) (of_two (λ old new. IsTold p.native (read_as p.native old) (read_as p.native new))) result
   AnswersCompare false p result = AnswersTold (p.two ∷ p.three ∷ [])
       (of_two (OfBundles p.native (TellsCompared (bytes_eq p.four (codes "atmost")) p.native))) result
 
@@ -469,8 +467,6 @@ module _ {I O : Type 0} (left : I → Option (List ℕ)) (given : I → Failures
   DoesWith Learn p result = (input' ≡ input) × AnswersLearn held taken folder out out' p.native p.from_two result
   DoesWith Replay p result = (input' ≡ input) × AnswersReplay held taken folder out out' p.native p.two p.from_three result
   DoesWith Recover p result = (input' ≡ input) × AnswersRecovered held taken folder out out' p.native p.from_three p.two result
-  DoesWith Tune p result = (input' ≡ input) × AnswersTold held taken folder out out' (p.two ∷ p.three ∷ [])
-      (of_two (λ text counts. OfBundle p.native (TellsTuned p.native) text)) result
   DoesWith Join p result = (input' ≡ input) × AnswersCombined held taken folder out out' p.native Laxest p.from_two result
   DoesWith Meet p result = (input' ≡ input) × AnswersCombined held taken folder out out' p.native Strictest p.from_two result
   DoesWith Stack p result = (input' ≡ input) × AnswersStack held taken folder out out' p.native p.from_two result

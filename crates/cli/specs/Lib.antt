@@ -16,7 +16,6 @@ pub mod Statuses
 pub mod inner
 pub mod Read
 pub mod Recovered
-pub mod Tuned
 pub mod Combined
 pub mod Flat
 pub mod Widened

@@ -6,7 +6,7 @@ use Rattle.machines.specs.declared.arch.Arch.{Arch}
 use Rattle.command_line.specs.Lines.{Given}
 use Rattle.command_line.specs.declared.prose.Command.{Command}
 use Rattle.command_line.specs.declared.prose.Command.TheVariants.{Certify, Check, Compare, Explain, Export, Join, Learn}
-use Rattle.command_line.specs.declared.prose.Command.TheVariants.{Lint, Meet, Read, Replay, Review, Run, Tune}
+use Rattle.command_line.specs.declared.prose.Command.TheVariants.{Lint, Meet, Read, Replay, Review, Run}
 use Rattle.show.specs.Remarked.{IsRemarkOn}
 use Rattle.texts.specs.Failures.{Failures}
 use Rattle.cli.specs.Parts.{Parts, parts_of}
@@ -29,7 +29,6 @@ bundle_names Export p = take 1 p.from_two
 bundle_names Lint p = take 1 p.from_two
 bundle_names Read p = take 1 p.from_two
 bundle_names Replay p = take 1 p.from_two
-bundle_names Tune p = take 1 p.from_two
 bundle_names Review p = if bytes_eq p.four (codes "html") then take 2 p.from_two else take 1 p.from_two
 bundle_names Compare p = if bytes_eq p.four (codes "filters") then [] else take 2 p.from_two
 bundle_names Join p = p.from_two

@@ -34,7 +34,6 @@ mod run;
 mod showing;
 mod stops;
 mod telling;
-mod tuning;
 mod widening;
 
 pub use command_line::{

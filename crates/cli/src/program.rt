@@ -33,7 +33,6 @@ use crate::run::run_bundles;
 use crate::showing::{annotated, drawn, read_out, rules};
 use crate::stops::Stop;
 use crate::telling::{assembled, compare_as, linted, record, tell, tell_both};
-use crate::tuning::filter_for_counts;
 use command_line::{Command, CommandLine, read_arguments};
 use machines::Arch;
 use maker::{check_line, verdict_line};
@@ -187,13 +186,6 @@ fn obey<'a, F: Files, I: Source, O: Sink, E: Sink>(
         Command::Recover => {
             tell_both(
                 recovered(alloc, native, parts.from_three, parts.two, files),
-                out,
-                err,
-            )
-        }
-        Command::Tune => {
-            tell_both(
-                filter_for_counts(alloc, native, parts.two, parts.three, files),
                 out,
                 err,
             )

@@ -17,7 +17,7 @@ use crate::forms::in_form;
 use crate::stops::Stop;
 use aside::Leave;
 use machines::Arch;
-use recover::{Unsaid, line_of, recover};
+use recover::{Unrecovered, Unsaid, line_of, recover};
 use recover_but::{RecoveredBut, recover_told};
 use recover_others::{Unallowed, recover_others};
 use std::alloc::{AllocError, Global};
@@ -118,13 +118,29 @@ fn untold(alloc: Global, native: Arch, unsaid: &Unsaid) -> Result<Both, AllocErr
     Ok(none(alloc, changes))
 }
 
+// Behind the line that tells why, before a bundle that was judged without a yes.
+const DRAFT: &str = "ccell: this was written for it, and is not handed out as its profile:\n";
+
+// Why none was found, and what was drafted.
+fn undone(alloc: Global, native: Arch, why: &Unrecovered) -> Result<Both, AllocError>
+    ensures done { IfOk result (λ both. both.told.done ≡ false) }
+    ensures empty { IfOk result (λ both. both.told.bytes.items ≡ []) }
+{
+    let mut changes = line_of(alloc, native, &why.unsaid)?;
+    if let Some(draft) = &why.draft {
+        changes.push_str(DRAFT)?;
+        changes.push_str(draft)?;
+    }
+    Ok(none(alloc, changes))
+}
+
 // The bundle that means what a filter does, or why none was found.
 fn bundle_of(alloc: Global, native: Arch, filter: &[u8]) -> Result<Both, AllocError>
     ensures { IfOk result (λ both. spec.TellsRecovered native filter.now both.told) }
 {
     match recover(alloc, native, filter) {
         Ok(bundle) => Ok(found(alloc, bundle)),
-        Err(unsaid) => untold(alloc, native, &unsaid),
+        Err(why) => undone(alloc, native, &why),
     }
 }
 

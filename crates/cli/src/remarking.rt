@@ -31,8 +31,7 @@ fn bundle_names<'a>(command: Command, parts: &Parts<'a>) -> &'a [&'a str]
         | Command::Export
         | Command::Lint
         | Command::Read
-        | Command::Replay
-        | Command::Tune => first(parts.from_two, 1),
+        | Command::Replay => first(parts.from_two, 1),
         Command::Compare => {
             if parts.four == "filters" {
                 return first(parts.from_two, 0);

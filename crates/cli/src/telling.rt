@@ -39,7 +39,6 @@ pub(crate) fn is_refusal(bytes: &[u8]) -> bool
         || bytes.starts_with(b"refused call")
         || bytes.starts_with(b"refused log ")
         || bytes.starts_with(b"refused lines")
-        || bytes.starts_with(b"refused counts ")
 }
 
 // How a command ends that told whether it was done.
@@ -212,7 +211,7 @@ fn filters_told(
     first: &[u8],
     second: &[u8],
 ) -> Result<Told, AllocError>
-    ensures { IfOk result (IsTold (read_as native first.now) (read_as native second.now)) }
+    ensures { IfOk result (IsTold native (read_as native first.now) (read_as native second.now)) }
 {
     let old = read_as(alloc, native, first)?;
     let new = read_as(alloc, native, second)?;
@@ -227,7 +226,7 @@ fn filters_compared_with<'a, F: Files>(
     new: &'a str,
     files: &mut F,
 ) -> Result<Told, Stop<'a>>
-    ensures { IsToldOf (F.folder files.old) (new.entry.now ∷ []) (of_one (λ new. IsTold (read_as native first.now) (read_as native new))) result }
+    ensures { IsToldOf (F.folder files.old) (new.entry.now ∷ []) (of_one (λ new. IsTold native (read_as native first.now) (read_as native new))) result }
 {
     match read(alloc, files, new) {
         Ok(second) => match filters_told(alloc, native, first, &second) {
@@ -246,7 +245,7 @@ fn filters_compared<'a, F: Files>(
     new: &'a str,
     files: &mut F,
 ) -> Result<Told, Stop<'a>>
-    ensures { IsToldOf (F.folder files.old) (old.entry.now ∷ new.entry.now ∷ []) (of_two (λ old new. IsTold (read_as native old) (read_as native new))) result }
+    ensures { IsToldOf (F.folder files.old) (old.entry.now ∷ new.entry.now ∷ []) (of_two (λ old new. IsTold native (read_as native old) (read_as native new))) result }
 {
     match read(alloc, files, old) {
         Ok(first) => filters_compared_with(alloc, native, &first, new, files),

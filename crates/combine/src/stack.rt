@@ -24,8 +24,10 @@ fn bundle_of(
 {
     match recover(alloc, native, filter) {
         Ok(bundle) => Ok(bundle.into_bytes()),
-        Err(Unsaid::OutOfMemory) => Err(Uncombined::OutOfMemory),
-        Err(unsaid) => Err(Uncombined::Filter(place, unsaid)),
+        Err(why) => match why.unsaid {
+            Unsaid::OutOfMemory => Err(Uncombined::OutOfMemory),
+            unsaid => Err(Uncombined::Filter(place, unsaid)),
+        },
     }
 }
 

@@ -2,10 +2,10 @@
 use Rattle.std.specs.Prelude.{ℕ, List}
 use Rattle.command_line.specs.declared.prose.Command.{Command}
 use Rattle.command_line.specs.declared.prose.Command.TheVariants.{Verdict, Check, Certify, Export, Run, Explain, Read, Lint, Compare}
-use Rattle.command_line.specs.declared.prose.Command.TheVariants.{Adapt, Learn, Replay, Record, Assemble, Annotate, Draw, Recover, Tune}
+use Rattle.command_line.specs.declared.prose.Command.TheVariants.{Adapt, Learn, Replay, Record, Assemble, Annotate, Draw, Recover}
 use Rattle.command_line.specs.declared.prose.Command.TheVariants.{Join, Meet, Stack, Flatten, Review, Json, Manual, Version}
 use Rattle.command_line.specs.declared.prose.TheConstants.{VERDICT, CHECK, CERTIFY, EXPORT, RUN, EXPLAIN, READ, LINT, COMPARE}
-use Rattle.command_line.specs.declared.prose.TheConstants.{ADAPT, LEARN, REPLAY, RECORD, ASSEMBLE, ANNOTATE, DRAW, RECOVER, TUNE}
+use Rattle.command_line.specs.declared.prose.TheConstants.{ADAPT, LEARN, REPLAY, RECORD, ASSEMBLE, ANNOTATE, DRAW, RECOVER}
 use Rattle.command_line.specs.declared.prose.TheConstants.{JOIN, MEET, STACK, FLATTEN, REVIEW, JSON, MANUAL, VERSION}
 
 unfoldable pub prose_text : Command → List ℕ
@@ -26,7 +26,6 @@ prose_text Assemble = ASSEMBLE.now
 prose_text Annotate = ANNOTATE.now
 prose_text Draw = DRAW.now
 prose_text Recover = RECOVER.now
-prose_text Tune = TUNE.now
 prose_text Join = JOIN.now
 prose_text Meet = MEET.now
 prose_text Stack = STACK.now

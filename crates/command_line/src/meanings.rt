@@ -4,9 +4,9 @@ ghost use Rattle.command_line.specs.Table.{words_of};
 
 use crate::said::{
     ARGUMENT, ASKED_CALL, BUNDLE, BUNDLES, CALL, CERTIFICATE, CERTIFIED, CERTIFIED_TOO, COMMAND,
-    COMPARED, CONFIG, COUNTS, FILTER, FILTERS, FORM, JUDGE, LEARNED_LOG, LISTING, MACHINE, NEW,
-    OLD, READ_AS, RECORD, RECOVERED, RECOVERED_TOO, REPLAYED_LOG, REVIEWED, REVIEWED_BOTH,
-    SHOWN_AS, WORD,
+    COMPARED, CONFIG, FILTER, FILTERS, FORM, JUDGE, LEARNED_LOG, LISTING, MACHINE, NEW, OLD,
+    READ_AS, RECORD, RECOVERED, RECOVERED_TOO, REPLAYED_LOG, REVIEWED, REVIEWED_BOTH, SHOWN_AS,
+    WORD,
 };
 
 /// What a part is.
@@ -38,7 +38,6 @@ pub enum Meaning {
     Word,
     LearnedLog,
     ReplayedLog,
-    Counts,
     Command,
     Judge,
     Argument,
@@ -74,7 +73,6 @@ impl Meaning {
             Meaning::Word => WORD,
             Meaning::LearnedLog => LEARNED_LOG,
             Meaning::ReplayedLog => REPLAYED_LOG,
-            Meaning::Counts => COUNTS,
             Meaning::Command => COMMAND,
             Meaning::Judge => JUDGE,
             Meaning::Argument => ARGUMENT,

@@ -22,7 +22,6 @@ pub enum Command {
     Annotate,
     Draw,
     Recover,
-    Tune,
     Join,
     Meet,
     Stack,
@@ -116,8 +115,9 @@ Example: ccell lint linux-x86-64 web.json
 const COMPARE: &str =
     "Reports all calls that the two answer unlike, a line for each and each direction, and last what is
 proved: same, allows no more, allows no less, or allows more and less. A call that can be answered
-in more than 1,048,576 ways may be undecided, and is named.
-Status 0 for same, 4 if a bundle is refused, or 1. With atmost, status 0 if the new bundle allows no more.
+in more than 4,194,304 ways may be undecided, and is named.
+Status 0 for same, 4 if a bundle is refused, or 1. With atmost, status 0 if the new bundle allows no more,
+and has the same flags and listener.
 filters: OLD and NEW are filters. A line stands for each call that is found of which they answer
 unlike verdicts. Status 0 if their bytes are the same, or 1.
 
@@ -155,9 +155,9 @@ Example: ccell learn linux-x86-64 web.log for crun > web.json
 ";
 
 const REPLAY: &str =
-    "Reports each call of logs that the bundle refuses: why, how often, and where first. With unused
-behind the logs, it reports each entry that no call of the logs matches.
-Status 0 if no call is refused, 4 if the bundle is, or 1.
+    "Reports each call of logs that the bundle refuses, or leaves to a tracer or a listener: why, how often,
+and where first. With unused behind the logs, it reports each entry that no call of the logs matches.
+Status 0 if each call is let through, 4 if the bundle is refused, or 1.
 
 Example: ccell replay linux-x86-64 web.json web.log unused
 ";
@@ -200,19 +200,9 @@ With runc, it is the section of the filter behind the stub that runc puts in fro
 that no table has are left aside if section and filter differ on them; with without-x32, all calls of
 x32 are. Standard error lists these, and the calls that the stub answers ENOSYS. With others, the filter
 allows the calls of all machines that it does not know, as systemd's do; x-ccell-otherMachines tells it.
-Status 0, or 1 if no section means the same, with a call that shows why.
+Status 0, or 1 if no section means the same, with a call that shows why, or what was drafted without a yes.
 
 Example: ccell recover linux-x86-64 container.bpf runc without-x32 > container.json
-";
-
-const TUNE: &str =
-    "Writes a filter that export could have written, in another order: for calls that are made as often as
-the file counts them, it runs the fewest instructions that are found, and is at most a tenth longer. The
-checker has answered yes. Calls that Linux answers without running a filter count as none. Standard
-error reports the instructions a call before and after.
-Status 0, 4 if the bundle or the counts are refused, or 1 and a line that begins with 'refused'.
-
-Example: ccell tune linux-x86-64 web.json web.counts > web.bpf
 ";
 
 const JOIN: &str =
@@ -307,7 +297,6 @@ impl Command {
             Command::Annotate => ANNOTATE,
             Command::Draw => DRAW,
             Command::Recover => RECOVER,
-            Command::Tune => TUNE,
             Command::Join => JOIN,
             Command::Meet => MEET,
             Command::Stack => STACK,

@@ -69,9 +69,6 @@ pub(crate) const LEARNED_LOG: &str =
 pub(crate) const REPLAYED_LOG: &str =
     "files that 'strace -f -n -e raw=all -o LOG' wrote\n[possible values: unused]";
 
-pub(crate) const COUNTS: &str =
-    "a file with the name of a call and how often it is made on each line";
-
 pub(crate) const COMMAND: &str = "the name of a command";
 
 pub(crate) const JUDGE: &str =

@@ -79,8 +79,6 @@ const LEARNED_LOG: Part = ("LOG", Meaning::LearnedLog);
 
 const REPLAYED_LOG: Part = ("LOG", Meaning::ReplayedLog);
 
-const COUNTS: Part = ("COUNTS", Meaning::Counts);
-
 const COMMAND: Part = ("COMMAND", Meaning::Command);
 
 const JUDGE: Part = ("COMMAND", Meaning::Judge);
@@ -222,13 +220,6 @@ pub const COMMANDS: &[Entry] = &[
         ],
         "the profile that any filter means",
         Command::Recover,
-    ),
-    (
-        "tune",
-        (3, 3),
-        &[MACHINE, BUNDLE, COUNTS],
-        "a checked filter for a bundle, by how often its calls are made",
-        Command::Tune,
     ),
     (
         "join",

@@ -1,6 +1,6 @@
 -- What gets past a profile or is stopped by it, as lines tell it.
 use Rattle.std.proofs.Common.{◌≡◌, ◌≢◌, ℕ, inl, inr, true, false, List, [], ◌∷◌, refl, ap, ◌∙◌, sym}
-use Rattle.std.proofs.Common.{◌==◌, ◌||◌, ◌⊎◌, subst}
+use Rattle.std.proofs.Common.{◌==◌, ◌&&◌, ◌||◌, ◌⊎◌, subst}
 use Rattle.std.proofs.lemmas.Bool.{and_parts, both_ways, cases_Bool, eq-eqb, eqb-true}
 use Rattle.std.proofs.lemmas.List.Elements.{All-head, All-tail}
 use Rattle.std.specs.List.{All, list_any}

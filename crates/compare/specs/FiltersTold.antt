@@ -3,6 +3,9 @@ use Rattle.std.specs.Prelude.{ℕ, ◌≡◌, ◌≢◌, Bool, true, false, ◌�
 use Rattle.std.specs.Fmt.{decimal}
 use Rattle.std.specs.List.{All, flat_map}
 use Rattle.texts.specs.Lines.{line_feed}
+use Rattle.machines.specs.Arch.{family_of}
+use Rattle.machines.specs.declared.arch.Arch.{Arch}
+use Rattle.machines.specs.declared.arch.Family.{Family}
 use Rattle.bpf_insn.specs.declared.instruction.Insn.{Insn}
 use Rattle.bpf_insn.specs.declared.fault.ViewError.{ViewError}
 use Rattle.bpf_insn.specs.Bytes.{insns_of, view_fault}
@@ -19,8 +22,8 @@ use Rattle.compare.specs.declared.filters.outcome.Outcome.{Outcome}
 use Rattle.compare.specs.declared.filters.outcome.Outcome.TheVariants.{Same, Differ, NoneFound, NoProgram, Refusal}
 
 -- a change is of a call of which the filters answer unlike verdicts
-abbrev pub IsUnlike : List Insn → List Insn → Change → Type 0
-IsUnlike old new change = AnswerUnlike old new change.first × (change.others.items ≡ [])
+abbrev pub IsUnlike : Family → List Insn → List Insn → Change → Type 0
+IsUnlike family old new change = AnswerUnlike family old new change.first × (change.others.items ≡ [])
 
 -- the bytes are no program, or none that the kernel accepts
 abbrev pub IsWrong : List ℕ → ℕ → Outcome → Type 0
@@ -34,11 +37,11 @@ AreUnlikeFilters old new = (old ≢ new) × (AreAccepted old × AreAccepted new)
 
 -- What is so of the bytes of two filters: that they are the same filter, or that the filters answer unlike verdicts to calls. That none was
 -- found says only that both are filters. Or the bytes of the first or the second one are wrong.
-abbrev pub IsOutcome : List ℕ → List ℕ → Outcome → Type 0
-IsOutcome old new Same = (old ≡ new) × AreAccepted old
-IsOutcome old new (Differ changes) = (changes.items ≢ []) × All (IsUnlike (insns_of old) (insns_of new)) changes.items
-IsOutcome old new NoneFound = AreUnlikeFilters old new
-IsOutcome old new other = IsWrong old 1 other ⊎ IsWrong new 2 other
+abbrev pub IsOutcome : Family → List ℕ → List ℕ → Outcome → Type 0
+IsOutcome family old new Same = (old ≡ new) × AreAccepted old
+IsOutcome family old new (Differ changes) = (changes.items ≢ []) × All (IsUnlike family (insns_of old) (insns_of new)) changes.items
+IsOutcome family old new NoneFound = AreUnlikeFilters old new
+IsOutcome family old new other = IsWrong old 1 other ⊎ IsWrong new 2 other
 
 -- the line of a filter whose bytes are no program, and of one that the kernel refuses
 abbrev pub view_line : ViewError → ℕ → List ℕ
@@ -59,9 +62,10 @@ abbrev pub is_done : Outcome → Bool
 is_done Same = true
 is_done other = false
 
--- what is told is the text of what is so, and it was done only of filters with the same bytes
-pub record IsTold (old new : List ℕ) (told : Told) : Type 0 where
+-- What is told is the text of what is so, by the names that the family of a native machine has. It was done only of filters with the same
+-- bytes.
+pub record IsTold (native : Arch) (old new : List ℕ) (told : Told) : Type 0 where
   pub outcome : Outcome
-  pub is : IsOutcome old new outcome
+  pub is : IsOutcome (family_of native) old new outcome
   pub text : told.bytes.items ≡ text_of outcome
   pub done : told.done ≡ is_done outcome

@@ -64,6 +64,7 @@ pub fn difference_on(
     ensures machine { IfSome result.arch (λ arch. token_of arch ≡ result.token) }
     ensures token { result.token ≡ call.now.arch }
     ensures nr { result.nr ≡ call.now.nr }
+    ensures pointer { result.ip ≡ call.now.ip }
     ensures first_is { result.first ≡ first }
     ensures second_is { result.second ≡ second }
 {

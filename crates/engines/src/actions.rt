@@ -1,49 +1,39 @@
 //! Actions, by how strict they are (seccomp(2)).
 use crate::capabilities::place_of;
+use profile_json::key;
 use serde_json::Value;
 
 /// What engines call an action that is written under another name.
-pub(crate) const KILL_THREAD: &str = "SCMP_ACT_KILL_THREAD";
+pub(crate) const KILL_THREAD: &str = key::KILL_THREAD;
 
-const KILL_PROCESS: &str = "SCMP_ACT_KILL_PROCESS";
-
-// The actions, the strictest first.
-const ACTIONS: &[&str] = &[
-    "SCMP_ACT_KILL_PROCESS",
-    "SCMP_ACT_KILL",
-    "SCMP_ACT_TRAP",
-    "SCMP_ACT_ERRNO",
-    "SCMP_ACT_NOTIFY",
-    "SCMP_ACT_TRACE",
-    "SCMP_ACT_LOG",
-    "SCMP_ACT_ALLOW",
-];
-
-/// All names of actions.
+/// All names of actions, the strictest first. The second and the third are of one action.
 pub(crate) const NAMES: &[&str] = &[
-    "SCMP_ACT_KILL_PROCESS",
-    "SCMP_ACT_KILL_THREAD",
-    "SCMP_ACT_KILL",
-    "SCMP_ACT_TRAP",
-    "SCMP_ACT_ERRNO",
-    "SCMP_ACT_NOTIFY",
-    "SCMP_ACT_TRACE",
-    "SCMP_ACT_LOG",
-    "SCMP_ACT_ALLOW",
+    key::KILL_PROCESS,
+    key::KILL_THREAD,
+    key::KILL,
+    key::TRAP,
+    key::ERRNO,
+    key::NOTIFY,
+    key::TRACE,
+    key::LOG,
+    key::ALLOW,
 ];
+
+// Where LOG stands among them: the actions before it refuse.
+const PLACE_OF_LOG: usize = 7;
 
 // The place of an action among them.
 fn rank_of(action: &str) -> Option<usize> {
     if action == KILL_THREAD {
-        return Some(1);
+        return place_of(NAMES, key::KILL);
     }
-    place_of(ACTIONS, action)
+    place_of(NAMES, action)
 }
 
 /// Whether an action refuses a call: logged in its place, the call is let through.
 pub(crate) fn refuses(action: &str) -> bool {
     match rank_of(action) {
-        Some(rank) => rank < 6,
+        Some(rank) => rank < PLACE_OF_LOG,
         None => false,
     }
 }
@@ -63,7 +53,7 @@ pub(crate) fn text_at<'a>(object: &'a Value, key: &str) -> &'a str {
 
 // Whether an entry's action may be stricter than that of calls of a machine that is not listed.
 fn may_kill_process(entry: &Value) -> bool {
-    text_at(entry, "action") == KILL_PROCESS
+    text_at(entry, "action") == key::KILL_PROCESS
 }
 
 // Whether that is so of one of several entries.
@@ -78,7 +68,7 @@ fn one_may_kill_process(entries: &[Value]) -> bool {
 
 /// Whether a section says KILL_PROCESS somewhere, which is stricter than what calls of unlisted machines get.
 pub(crate) fn says_kill_process(section: &Value) -> bool {
-    if text_at(section, "defaultAction") == KILL_PROCESS {
+    if text_at(section, "defaultAction") == key::KILL_PROCESS {
         return true;
     }
     match section.get("syscalls").and_then(Value::as_array) {

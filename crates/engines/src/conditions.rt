@@ -6,18 +6,8 @@ use crate::near::tell_operator;
 use crate::parts::Part;
 use crate::place::Place;
 use crate::text::Text;
+use profile_json::{OPERATORS, key};
 use serde_json::Value;
-
-// The names of operators.
-const OPERATORS: &[&str] = &[
-    "SCMP_CMP_NE",
-    "SCMP_CMP_LT",
-    "SCMP_CMP_LE",
-    "SCMP_CMP_EQ",
-    "SCMP_CMP_GE",
-    "SCMP_CMP_GT",
-    "SCMP_CMP_MASKED_EQ",
-];
 
 // The whole number under a key of a condition.
 fn number_at(condition: &Value, key: &str) -> Option<u64> {
@@ -57,7 +47,7 @@ pub(crate) fn asked_alone(entry: &Value) -> Option<&[Value]> {
 
 // The second value of a condition that asks for bits, cut to those that it asks for, if it has others.
 fn cut_datum(condition: &Value) -> Option<u64> {
-    if text_at(condition, "op") != "SCMP_CMP_MASKED_EQ" {
+    if text_at(condition, "op") != key::MASKED_EQ {
         return None;
     }
     let mask = number_at(condition, "value")?;

@@ -24,12 +24,12 @@ const OTHER_MACHINES: &[&str] = &[
     "SCMP_ARCH_SHEB",
 ];
 
-// What others call machines, each with libseccomp's name.
-const MACHINES_OF_OTHERS: &[(&str, &str)] = &[
-    ("SCMP_ARCH_AMD64", "SCMP_ARCH_X86_64"),
-    ("SCMP_ARCH_X64", "SCMP_ARCH_X86_64"),
-    ("SCMP_ARCH_I386", "SCMP_ARCH_X86"),
-    ("SCMP_ARCH_ARM64", "SCMP_ARCH_AARCH64"),
+// What others call machines.
+const MACHINES_OF_OTHERS: &[(&str, Arch)] = &[
+    ("SCMP_ARCH_AMD64", Arch::LinuxX86_64),
+    ("SCMP_ARCH_X64", Arch::LinuxX86_64),
+    ("SCMP_ARCH_I386", Arch::LinuxX86),
+    ("SCMP_ARCH_ARM64", Arch::LinuxAarch64),
 ];
 
 // From so many edits on a name is like no other.
@@ -220,7 +220,7 @@ pub(crate) fn tell_operator(
 fn machine_of_others(name: &str) -> Option<&'static str> {
     for entry in MACHINES_OF_OTHERS {
         if entry.0 == name {
-            return Some(entry.1);
+            return Some(entry.1.scmp());
         }
     }
     None

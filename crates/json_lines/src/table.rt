@@ -144,9 +144,11 @@ change {call} of {machines}: {old}, {new}
 
 const REPLAY: &str =
     "refused refused {call}, number {number} of {machine}: {action}, {why}, {times} times
+left left {call}, number {number} of {machine}: {action}, {why}, {times} times
 refused_profile refused profile {number} {fault} {of}
 refused_profile refused profile {number} {fault}
 refused_log refused log {log}: {why}
+refused_in_all {refused} of {records} records refused, {left} left to a tracer or a listener
 refused_in_all {refused} of {records} records refused
 partly_used partly used entry {entry}: {names}
 unused unused entry {entry}: {names}

@@ -1,6 +1,6 @@
 -- What each reason says for which no section is found.
 use Rattle.std.specs.Prelude.{◌≡◌, ◌≢◌, ℕ, ◌==◌, ◌&&◌, ◌||◌, ⊤, Bool, true, false, List, [], ◌∷◌, map}
-use Rattle.std.specs.Prelude.{None, Some, Err, nat_le, if◌then◌else◌}
+use Rattle.std.specs.Prelude.{Option, None, Some, Err, nat_le, if◌then◌else◌}
 use Rattle.std.specs.List.{list_any}
 use Rattle.call_record.specs.declared.layout.Record.{Record}
 use Rattle.call_record.specs.Record.{words}
@@ -89,6 +89,19 @@ IsSeen family p (why.Unfollowed one) = IsAnswer p one
 IsSeen family p why.TooLarge = ⊤
 IsSeen family p why.OutOfMemory = ⊤
 IsSeen family p other = ⊥
+
+-- What a reason says of a filter's bytes for which nothing was drafted. They are refused, or something was seen of them.
+abbrev pub IsUndrafted : Arch → List ℕ → Unsaid → Type 0
+IsUndrafted native filter (why.View fault) = view_fault filter ≡ Some fault
+IsUndrafted native filter (why.Kernel refused) = (view_fault filter ≡ None) × IsRefusal (insns_of filter) refused
+IsUndrafted native filter other = IsSeen (family_of native) (insns_of filter) other
+
+-- What a reason says of a filter's bytes and of the bundle that was drafted for them and judged, if one was.
+abbrev pub IsUnrecovered : Arch → List ℕ → Unsaid → Option (List ℕ) → Type 0
+IsUnrecovered native filter unsaid None = IsUndrafted native filter unsaid
+IsUnrecovered native filter (why.Unlike found) (Some draft) = IsEvidenceFor native draft filter (Convicting found)
+IsUnrecovered native filter (why.Undecided unready) (Some draft) = IsJudgement native draft filter (Err unready)
+IsUnrecovered native filter other (Some draft) = ⊥
 
 -- What a reason says of a filter's bytes. They are refused, or something was seen of them, or the bundle that was written for them was
 -- judged.

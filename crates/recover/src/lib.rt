@@ -29,6 +29,7 @@ mod survey;
 mod telling;
 mod text;
 mod unlike;
+mod unrecovered;
 mod unsaid;
 mod work;
 
@@ -36,4 +37,5 @@ pub use law::such_filters_are_no_bundles;
 pub use passed::Passed;
 pub use recovered::{draft_of, recover};
 pub use telling::line_of;
+pub use unrecovered::Unrecovered;
 pub use unsaid::{Shown, Unsaid};

@@ -6,6 +6,7 @@ use crate::entries::Entry;
 use crate::machine_tests::Listed;
 use call_record::Word;
 use profile::{Cond, Op};
+use profile_json::{key, operator_name};
 use std::alloc::{AllocError, Global};
 
 // The name of a verdict's action in a section.
@@ -13,14 +14,14 @@ fn action_name(word: Word) -> Option<&'static str>
     ensures { is_some result ≡ has_action word }
 {
     match word.action() {
-        Word::KILL_PROCESS => Some("SCMP_ACT_KILL_PROCESS"),
-        Word::KILL_THREAD => Some("SCMP_ACT_KILL"),
-        Word::TRAP => Some("SCMP_ACT_TRAP"),
-        Word::ERRNO => Some("SCMP_ACT_ERRNO"),
-        Word::USER_NOTIF => Some("SCMP_ACT_NOTIFY"),
-        Word::TRACE => Some("SCMP_ACT_TRACE"),
-        Word::LOG => Some("SCMP_ACT_LOG"),
-        Word::ALLOW => Some("SCMP_ACT_ALLOW"),
+        Word::KILL_PROCESS => Some(key::KILL_PROCESS),
+        Word::KILL_THREAD => Some(key::KILL),
+        Word::TRAP => Some(key::TRAP),
+        Word::ERRNO => Some(key::ERRNO),
+        Word::USER_NOTIF => Some(key::NOTIFY),
+        Word::TRACE => Some(key::TRACE),
+        Word::LOG => Some(key::LOG),
+        Word::ALLOW => Some(key::ALLOW),
         _ => None,
     }
 }
@@ -46,18 +47,6 @@ pub(crate) fn is_given(word: Word) -> bool
         return word.data() <= 4095;
     }
     word.data() == 0
-}
-
-fn op_name(op: Op) -> &'static str {
-    match op {
-        Op::Ne => "SCMP_CMP_NE",
-        Op::Lt => "SCMP_CMP_LT",
-        Op::Le => "SCMP_CMP_LE",
-        Op::Eq => "SCMP_CMP_EQ",
-        Op::Ge => "SCMP_CMP_GE",
-        Op::Gt => "SCMP_CMP_GT",
-        Op::MaskedEq => "SCMP_CMP_MASKED_EQ",
-    }
 }
 
 // Adds a verdict, under these keys.
@@ -88,7 +77,7 @@ fn put_condition(text: &mut String, cond: &Cond) -> Result<(), AllocError> {
     if let Op::MaskedEq = op {
         write!(text, ", \"valueTwo\": {datum}")?;
     }
-    let name = op_name(op);
+    let name = operator_name(op);
     write!(text, ", \"op\": \"{name}\"}}")
 }
 

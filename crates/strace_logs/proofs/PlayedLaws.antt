@@ -22,24 +22,23 @@ use Rattle.strace_logs.specs.declared.logged.LogCall.{LogCall}
 use Rattle.strace_logs.specs.declared.refusals.RefusedCall.{RefusedCall}
 use Rattle.strace_logs.specs.Logged.{Logged, calls_from, calls_in, calls_of, first_none, told_on}
 use Rattle.wording.specs.Reason.{reason_of}
-use Rattle.strace_logs.specs.Replayed.{LetsThrough, LineIsThrough, Refused, TextIsThrough, count_text, firsts_behind, refusal_text, refused_in, replay_text, with_verdict}
+use Rattle.strace_logs.specs.Replayed.{LetsThrough, LineIsThrough, Refused, TextIsThrough, counts_text, firsts_behind, refusal_text, refused_in, replay_text, with_verdict}
 use Rattle.strace_logs.specs.inner.Played.{ArePlayed, IsPlayed}
 use Rattle.strace_logs.specs.inner.Views.{all_logged, all_refused, logged, refused}
 
 -- ---- the text
 
-abbrev text_by : List Refused → ℕ → ℕ → List ℕ → List ℕ
-text_by xs refused calls rest = flat_map (refusal_text xs) (firsts_behind [] xs) ++ count_text refused calls ++ rest
+abbrev text_by : List Refused → ℕ → List ℕ → List ℕ
+text_by xs calls rest = flat_map (refusal_text xs) (firsts_behind [] xs) ++ counts_text xs calls ++ rest
 
 pub played_text : (p : Policy) (rules : List Rule) (ends : List ℕ) (code : List LogCall) (items : List RefusedCall) (text rest : List ℕ)
     → all_refused items ≡ refused_in p rules ends (all_logged code)
-    → text ≡ flat_map (refusal_text (all_refused items)) (firsts_behind [] (all_refused items)) ++ count_text (length items) (length code) ++ rest
+    → text ≡ flat_map (refusal_text (all_refused items)) (firsts_behind [] (all_refused items)) ++ counts_text (all_refused items) (length code) ++ rest
     → text ≡ flat_map (refusal_text (refused_in p rules ends (all_logged code))) (firsts_behind [] (refused_in p rules ends (all_logged code)))
-    ++ count_text (length (refused_in p rules ends (all_logged code))) (length (all_logged code)) ++ rest
+    ++ counts_text (refused_in p rules ends (all_logged code)) (length (all_logged code)) ++ rest
 played_text p rules ends code items text rest are is =
-    is ∙ ap (λ n. text_by (all_refused items) n (length code) rest) (sym (length-map items refused))
-    ∙ ap (λ n. text_by (all_refused items) (length (all_refused items)) n rest) (sym (length-map code logged))
-    ∙ ap (λ xs. text_by xs (length xs) (length (all_logged code)) rest) are
+    is ∙ ap (λ n. text_by (all_refused items) n rest) (sym (length-map code logged))
+    ∙ ap (λ xs. text_by xs (length (all_logged code)) rest) are
 
 -- ---- when nothing is refused
 

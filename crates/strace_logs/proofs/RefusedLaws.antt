@@ -111,6 +111,11 @@ pub next_alike : (xs : List Refused) (i : ℕ) (x : Refused) (old new : List Ref
 next_alike xs i x old new below is next =
     subst (HaveAlike new) (sym (take_more xs i x below ∙ ap (λ (z : Refused). take i xs ++ z ∷ []) (sym is))) next.alike
 
+-- what is told in three parts
+pub told_three : (old one two a b c : List ℕ) → one ≡ old ++ a → two ≡ one ++ b → two ++ c ≡ old ++ (a ++ b ++ c)
+told_three old one two a b c e f =
+    ap (λ (l : List ℕ). l ++ c) (f ∙ ap (λ (l : List ℕ). l ++ b) e) ∙ simp append_assoc
+
 -- what is told in four parts
 pub told_four : (old one two three a b c d : List ℕ) → one ≡ old ++ a → two ≡ one ++ b → three ≡ two ++ c → three ++ d ≡ old ++ (a ++ b ++ c ++ d)
 told_four old one two three a b c d e f g =

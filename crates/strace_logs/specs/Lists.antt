@@ -5,7 +5,7 @@ use Rattle.std.specs.Str.{bytes_eq}
 use Rattle.strace_logs.specs.declared.lists.Runtime.{Runtime}
 use Rattle.strace_logs.specs.declared.lists.Runtime.TheVariants.{Crun, Runc, Bubblewrap, Docker, Podman}
 use Rattle.strace_logs.specs.declared.lists.TheConstants.{NEEDED, FALLBACKS, THREADS, OF_CRUN}
-use Rattle.strace_logs.specs.declared.lists.TheConstants.{OF_RUNC, OF_BUBBLEWRAP, OF_TINI, OF_CATATONIT}
+use Rattle.strace_logs.specs.declared.lists.TheConstants.{OF_RUNC, OF_BUBBLEWRAP, OF_TINI, OF_INITS}
 
 -- a call that a program needs and no log shows
 unfoldable pub is_needed : List ℕ → Bool
@@ -31,15 +31,15 @@ is_of_bubblewrap name = list_any (λ other. bytes_eq other.now name) OF_BUBBLEWR
 unfoldable pub is_of_tini : List ℕ → Bool
 is_of_tini name = list_any (λ other. bytes_eq other.now name) OF_TINI.now
 
-unfoldable pub is_of_catatonit : List ℕ → Bool
-is_of_catatonit name = list_any (λ other. bytes_eq other.now name) OF_CATATONIT.now
+unfoldable pub is_of_inits : List ℕ → Bool
+is_of_inits name = list_any (λ other. bytes_eq other.now name) OF_INITS.now
 
--- docker has runc, and may put tini before the program; podman has crun, and may put catatonit there
+-- docker has runc, and may put tini before the program; podman has crun, and may put catatonit, tini or dumb-init there
 abbrev pub is_of_docker : List ℕ → Bool
 is_of_docker name = is_of_runc name || is_of_tini name
 
 abbrev pub is_of_podman : List ℕ → Bool
-is_of_podman name = is_of_crun name || is_of_catatonit name
+is_of_podman name = is_of_crun name || is_of_inits name
 
 -- a call that a runtime makes itself between the load of a filter and the program, or that process before the program
 abbrev pub is_of_runtime : Option Runtime → List ℕ → Bool

@@ -1,9 +1,10 @@
 -- What is told of logs that are played through a bundle.
 use Rattle.std.specs.Prelude.{ℕ, ◌≡◌, ◌↔◌, ◌⊎◌, ◌==◌, ◌&&◌, Bool, true, false, if◌then◌else◌, List, [], ◌∷◌, ◌++◌, Some, None, IfSome}
-use Rattle.std.specs.Prelude.{codes, count_by, length, map, unwrap_or}
+use Rattle.std.specs.Prelude.{◌-◌, codes, count_by, length, map, unwrap_or}
 use Rattle.std.specs.Fmt.{decimal}
 use Rattle.std.specs.List.{All, flat_map, list_any}
 use Rattle.texts.specs.Lines.{line_feed}
+use Rattle.call_record.specs.Fate.{is_left}
 use Rattle.call_record.specs.Verdict.{Through, is_through}
 use Rattle.call_record.specs.Words.{word}
 use Rattle.machines.specs.declared.arch.Arch.{Arch}
@@ -76,10 +77,17 @@ why_text Default = codes "default"
 abbrev pub name_of : Arch → ℕ → List ℕ
 name_of arch nr = unwrap_or (name_in (table_of arch) nr) (codes "a call")
 
+-- a tracer or a listener decides on the call
+abbrev pub is_left_call : Refused → Bool
+is_left_call x = is_left x.verdict
+
+abbrev pub fate_text : Bool → List ℕ
+fate_text left = if left then codes "left " else codes "refused "
+
 -- the call, the verdict and why
 abbrev pub call_text : Refused → List ℕ
 call_text x =
-    codes "refused " ++ name_of x.arch x.nr ++ codes ", number " ++ decimal x.nr ++ codes " of " ++ machine_name x.arch ++ codes ": "
+    fate_text (is_left x.verdict) ++ name_of x.arch x.nr ++ codes ", number " ++ decimal x.nr ++ codes " of " ++ machine_name x.arch ++ codes ": "
     ++ action_text x.verdict ++ codes ", "
 
 abbrev pub times_text : ℕ → List ℕ
@@ -94,14 +102,24 @@ abbrev pub refusal_text : List Refused → Refused → List ℕ
 refusal_text all x =
     call_text x ++ why_text x.why ++ times_text (count_by (is_alike x) all) ++ place_text x
 
-abbrev pub count_text : ℕ → ℕ → List ℕ
-count_text refused calls = decimal refused ++ codes " of " ++ decimal calls ++ codes " records refused" ++ line_feed ∷ []
+abbrev pub left_text : ℕ → List ℕ
+left_text left = if left == 0 then [] else codes ", " ++ decimal left ++ codes " left to a tracer or a listener"
 
--- each refused call once, with how often it is; how many records are refused; and if it is asked for, what is not used
+abbrev pub refused_text : ℕ → ℕ → List ℕ
+refused_text refused calls = decimal refused ++ codes " of " ++ decimal calls ++ codes " records refused"
+
+abbrev pub count_text : ℕ → ℕ → ℕ → List ℕ
+count_text refused left calls = refused_text refused calls ++ left_text left ++ line_feed ∷ []
+
+-- how many of the calls are refused, and how many are left to a tracer or a listener
+abbrev pub counts_text : List Refused → ℕ → List ℕ
+counts_text all calls = count_text (length all - count_by is_left_call all) (count_by is_left_call all) calls
+
+-- each call that is refused or left once, with how often it is; how many records these are; and if it is asked for, what is not used
 abbrev pub replay_text : Policy → List Rule → List ℕ → Bool → List Logged → List ℕ
 replay_text p rules ends unused calls =
     let refused = refused_in p rules ends calls in
-    flat_map (refusal_text refused) (firsts_behind [] refused) ++ count_text (length refused) (length calls)
+    flat_map (refusal_text refused) (firsts_behind [] refused) ++ counts_text refused (length calls)
     ++ (if unused then unused_text rules ends calls else [])
 
 -- ---- what is answered

@@ -32,8 +32,9 @@ pub enum Otherwise {
     Kill,
 }
 
-/// Calls that programs need and that a log may lack. They are those that end a program, those that the kernel makes it repeat
-/// and those behind a signal's handler. They are also what a node without a vDSO asks for the time, and what `abort` calls.
+/// Calls that programs need and that a log may lack. They are those that end a program, those that the kernel makes it repeat,
+/// those behind a signal's handler and those that only wait for a signal. They are also what a node without a vDSO asks for the
+/// time, and what `abort` calls.
 pub(crate) const NEEDED: &[&str] = &[
     "clock_gettime",
     "clock_gettime64",
@@ -43,10 +44,15 @@ pub(crate) const NEEDED: &[&str] = &[
     "getpid",
     "gettid",
     "gettimeofday",
+    "pause",
     "restart_syscall",
     "rt_sigprocmask",
     "rt_sigreturn",
+    "rt_sigsuspend",
+    "rt_sigtimedwait",
+    "rt_sigtimedwait_time64",
     "sigreturn",
+    "sigsuspend",
     "tgkill",
     "time",
 ];
@@ -142,24 +148,32 @@ pub(crate) const OF_TINI: &[&str] = &[
     "write",
 ];
 
-/// The same of podman (catatonit).
-pub(crate) const OF_CATATONIT: &[&str] = &[
+/// The same of podman: catatonit, and tini and dumb-init with `--init-path`, which load a C library.
+pub(crate) const OF_INITS: &[&str] = &[
+    "access",
     "arch_prctl",
     "brk",
+    "chdir",
     "clone",
     "close",
     "close_range",
     "execve",
     "exit_group",
+    "fstat",
     "getpgid",
     "getpgrp",
     "getpid",
     "getrandom",
+    "getsid",
     "ioctl",
     "kill",
+    "mmap",
     "mprotect",
+    "munmap",
+    "newfstatat",
     "openat",
     "prctl",
+    "pread64",
     "prlimit64",
     "read",
     "readlink",
@@ -167,9 +181,11 @@ pub(crate) const OF_CATATONIT: &[&str] = &[
     "rseq",
     "rt_sigaction",
     "rt_sigprocmask",
+    "rt_sigtimedwait",
     "set_robust_list",
     "set_tid_address",
     "setpgid",
+    "setsid",
     "signalfd4",
     "wait4",
     "write",
@@ -216,7 +232,7 @@ pub(crate) fn of_runtime(runtime: Option<Runtime>) -> &'static [&'static str] {
 pub(crate) fn of_first(runtime: Option<Runtime>) -> &'static [&'static str] {
     match runtime {
         Some(Runtime::Docker) => OF_TINI,
-        Some(Runtime::Podman) => OF_CATATONIT,
+        Some(Runtime::Podman) => OF_INITS,
         _ => &[],
     }
 }
@@ -284,11 +300,11 @@ fn is_of_tini(name: &str) -> bool
     is_in(OF_TINI, name)
 }
 
-#[tactic(auto, unfolding(crate::specs::Lists::is_of_catatonit))]
-fn is_of_catatonit(name: &str) -> bool
-    ensures { result ≡ spec.is_of_catatonit name.now }
+#[tactic(auto, unfolding(crate::specs::Lists::is_of_inits))]
+fn is_of_inits(name: &str) -> bool
+    ensures { result ≡ spec.is_of_inits name.now }
 {
-    is_in(OF_CATATONIT, name)
+    is_in(OF_INITS, name)
 }
 
 fn is_of_docker(name: &str) -> bool
@@ -306,7 +322,7 @@ fn is_of_podman(name: &str) -> bool
     if is_of_crun(name) {
         return true;
     }
-    is_of_catatonit(name)
+    is_of_inits(name)
 }
 
 // Whether a runtime calls it itself, or the process 1 that an engine may put before the program.

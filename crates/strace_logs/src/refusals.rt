@@ -17,7 +17,7 @@ use std::alloc::{AllocError, Global};
 use std::fmt::Write;
 use wording::{ActionText, Reason, reason_of};
 
-/// A call that is not carried out: its machine and number, the number of the verdict that is said of it, and why. Also the log, the number
+/// A call that is refused, or left to a tracer or a listener: its machine and number, the number of the verdict that is said of it, and why. Also the log, the number
 /// of the line and the line that show it.
 #[derive(Clone, Copy)]
 pub(crate) struct RefusedCall<'a> {
@@ -45,7 +45,7 @@ fn refused_call<'a>(shown: &LogCall<'a>, word: Word, why: Reason) -> RefusedCall
     }
 }
 
-// Adds a call, if a profile refuses it.
+// Adds a call, unless a profile lets it through.
 fn put_refused<'a>(
     profile: &Profile,
     all: &EntryRules,
@@ -64,7 +64,7 @@ fn put_refused<'a>(
     Ok(())
 }
 
-/// The calls of logs that a profile refuses, by the rules of its bundle's entries.
+/// The calls of logs that a profile does not let through, by the rules of its bundle's entries.
 pub(crate) fn refused_in<'a>(
     alloc: Global,
     profile: &Profile,
@@ -170,6 +170,24 @@ fn name_of(arch: Arch, nr: u32) -> &'static str
     }
 }
 
+/// How many are left to a tracer or a listener.
+pub(crate) fn count_left(calls: &[RefusedCall<'_>]) -> usize
+    ensures { result ≡ count_by spec.is_left_call (all_refused calls.now) }
+{
+    let mut count = 0usize;
+    for call in calls {
+        count += usize::from(Word(call.verdict).is_left());
+    }
+    count
+}
+
+// Whether a call is refused or left.
+fn fate_text(left: bool) -> &'static str
+    ensures { result.now ≡ spec.fate_text left }
+{
+    if left { "left " } else { "refused " }
+}
+
 // Adds the call, the verdict, and what stands before the reason.
 fn put_call(text: &mut String, call: &RefusedCall<'_>) -> Result<(), AllocError>
     ensures { IfOk result (λ _. string_bytes text.new ≡ string_bytes text.old ++ spec.call_text (refused call.now)) }
@@ -177,8 +195,9 @@ fn put_call(text: &mut String, call: &RefusedCall<'_>) -> Result<(), AllocError>
     let nr = call.nr;
     let name = name_of(call.arch, nr);
     let machine = call.arch.machine_name();
+    let fate = fate_text(Word(call.verdict).is_left());
     let action = ActionText(Word(call.verdict));
-    write!(text, "refused {name}, number {nr} of {machine}: {action}, ")
+    write!(text, "{fate}{name}, number {nr} of {machine}: {action}, ")
 }
 
 // Adds why a call is refused.
@@ -192,7 +211,7 @@ fn put_why(text: &mut String, why: Reason) -> Result<(), AllocError>
     }
 }
 
-// Adds how often it is refused.
+// Adds how often it is not let through.
 fn put_times(text: &mut String, count: usize) -> Result<(), AllocError>
     ensures { IfOk result (λ _. string_bytes text.new ≡ string_bytes text.old ++ spec.times_text count) }
 {
@@ -209,7 +228,7 @@ fn put_place(text: &mut String, call: &RefusedCall<'_>) -> Result<(), AllocError
     writeln!(text, "  {log}:{number}: {line}")
 }
 
-// Adds a call that is refused: the verdict, why, how often, and the line that shows it first.
+// Adds a call that is not let through: the verdict, why, how often, and the line that shows it first.
 fn put_refusal(
     text: &mut String,
     calls: &[RefusedCall<'_>],

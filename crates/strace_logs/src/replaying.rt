@@ -12,7 +12,7 @@ ghost use Rattle.strace_logs.specs.inner.Views.{all_logged, all_refused};
 
 use crate::logged::{LogCall, put_logs};
 use crate::logs::Log;
-use crate::refusals::{RefusedCall, put_refusals, refused_in};
+use crate::refusals::{RefusedCall, count_left, put_refusals, refused_in};
 use crate::unused::put_unused;
 use machines::Arch;
 use profile::Profile;
@@ -21,11 +21,36 @@ use std::alloc::{AllocError, Global};
 use std::fmt::Write;
 use wording::{Told, refused_profile};
 
-// Adds how many records are refused.
-fn put_count(text: &mut String, refused: usize, records: usize) -> Result<(), AllocError>
-    ensures { IfOk result (λ _. string_bytes text.new ≡ string_bytes text.old ++ spec.count_text refused records) }
+// Adds how many of the records are refused.
+fn put_refused(text: &mut String, refused: usize, records: usize) -> Result<(), AllocError>
+    ensures { IfOk result (λ _. string_bytes text.new ≡ string_bytes text.old ++ spec.refused_text refused records) }
 {
-    writeln!(text, "{refused} of {records} records refused")
+    write!(text, "{refused} of {records} records refused")
+}
+
+// Adds how many records are left to a tracer or a listener, if there are any.
+fn put_left(text: &mut String, left: usize) -> Result<(), AllocError>
+    ensures { IfOk result (λ _. string_bytes text.new ≡ string_bytes text.old ++ spec.left_text left) }
+{
+    if left == 0 {
+        return Ok(());
+    }
+    write!(text, ", {left} left to a tracer or a listener")
+}
+
+// Adds how many records are refused, and how many are left to a tracer or a listener.
+fn put_count(
+    text: &mut String,
+    refused: usize,
+    left: usize,
+    records: usize,
+) -> Result<(), AllocError>
+    ensures { IfOk result (λ _. string_bytes text.new ≡ string_bytes text.old ++ spec.count_text refused left records) }
+{
+    put_refused(text, refused, records)?;
+    put_left(text, left)?;
+    text.push_str("\n")?;
+    Ok(())
 }
 
 // Adds what is not used, if it is asked for.
@@ -45,7 +70,7 @@ fn put_if_asked(
     Ok(())
 }
 
-// The text that tells of calls, of which these are refused.
+// The text that tells of calls, and of these that are refused or left.
 fn text_of(
     alloc: Global,
     all: &EntryRules,
@@ -55,12 +80,14 @@ fn text_of(
 ) -> Result<String, AllocError>
     ensures { IfOk result (λ text. string_bytes text
         ≡ flat_map (spec.refusal_text (all_refused refused.now)) (spec.firsts_behind [] (all_refused refused.now))
-        ++ spec.count_text (length refused.now) (length calls.now)
+        ++ spec.counts_text (all_refused refused.now) (length calls.now)
         ++ (if tells_unused then unused_text all.now.rules.items all.now.ends.items (all_logged calls.now) else [])) }
 {
     let mut text = String::new(alloc);
     put_refusals(alloc, &mut text, refused)?;
-    put_count(&mut text, refused.len(), calls.len())?;
+    let left = count_left(refused);
+    let others = refused.len().saturating_sub(left);
+    put_count(&mut text, others, left, calls.len())?;
     put_if_asked(alloc, &mut text, all, calls, tells_unused)?;
     Ok(text)
 }

@@ -4,6 +4,7 @@ ghost use Rattle.std.specs.List.{All};
 ghost use Rattle.bpf_insn.specs.Bytes.{insns_of, view_fault};
 ghost use Rattle.kernel_check.specs.Accepted.{IsRefusal};
 ghost use Rattle.kernel_check.specs.Lent.{accepted_insns};
+ghost use Rattle.machines.specs.declared.arch.Family.{Family as TheFamily};
 ghost use Rattle.bpf_insn.specs.declared.instruction.Insn.{Insn as TheInsn};
 ghost use Rattle.compare.specs.Behind.{AreAccepted};
 ghost use Rattle.compare.specs.Differ.{AnswerUnlike};
@@ -34,7 +35,8 @@ pub enum Outcome {
 
 // Differences, each for itself.
 fn changes_of(alloc: Global, all: &[Difference]) -> Result<Vec<Change>, AllocError>
-    ensures { (old new : List TheInsn) → All (AnswerUnlike old new) all.now → IfOk result (λ changes. All (IsUnlike old new) changes.items) }
+    ensures { (f : TheFamily) (old new : List TheInsn) → All (AnswerUnlike f old new) all.now
+        → IfOk result (λ changes. All (IsUnlike f old new) changes.items) }
 {
     let mut changes = Vec::new(alloc);
     for found in all {
@@ -61,7 +63,7 @@ fn of_accepted(
     new: &Accepted<'_>,
 ) -> Result<Outcome, AllocError>
     ensures { (one other : List ℕ) → accepted_insns old.now ≡ insns_of one → accepted_insns new.now ≡ insns_of other
-        → AreUnlikeFilters one other → IfOk result (IsOutcome one other) }
+        → AreUnlikeFilters one other → IfOk result (IsOutcome family one other) }
 {
     let all = find_differences(alloc, family, old, new)?;
     let changes = changes_of(alloc, &all)?;
@@ -94,7 +96,7 @@ pub fn outcome_of(
     old: &[u8],
     new: &[u8],
 ) -> Result<Outcome, AllocError>
-    ensures { IfOk result (IsOutcome old.now new.now) }
+    ensures { IfOk result (IsOutcome family old.now new.now) }
 {
     let first = match read(old, 1) {
         Ok(first) => first,

@@ -2,6 +2,7 @@
 ghost use Rattle.std.specs.Prelude.{IfOk, IfSome, List};
 ghost use Rattle.std.specs.List.{All};
 ghost use Rattle.bpf_insn.specs.declared.instruction.Insn.{Insn as TheInsn};
+ghost use Rattle.machines.specs.declared.arch.Family.{Family as TheFamily};
 ghost use Rattle.kernel_check.specs.Lent.{accepted_insns};
 ghost use Rattle.compare.specs.Differ.{AnswerUnlike};
 
@@ -78,7 +79,7 @@ fn search_call(
     call: Record,
     most: usize,
 ) -> Result<Searched, AllocError>
-    ensures { IfOk result (λ searched. IfSome searched.found (AnswerUnlike (accepted_insns old.now) (accepted_insns new.now))) }
+    ensures { IfOk result (λ searched. IfSome searched.found (AnswerUnlike family (accepted_insns old.now) (accepted_insns new.now))) }
 {
     let mut todo = Vec::new(alloc);
     todo.push(call)?;
@@ -103,8 +104,8 @@ fn search_call(
 
 // Adds a difference, if there is one.
 fn add(found: Option<Difference>, all: &mut Vec<Difference>) -> Result<(), AllocError>
-    ensures { (old new : List TheInsn) → IfSome found (AnswerUnlike old new) → All (AnswerUnlike old new) all.old.items
-        → IfOk result (λ _. All (AnswerUnlike old new) all.new.items) }
+    ensures { (f : TheFamily) (old new : List TheInsn) → IfSome found (AnswerUnlike f old new) → All (AnswerUnlike f old new) all.old.items
+        → IfOk result (λ _. All (AnswerUnlike f old new) all.new.items) }
 {
     let Some(found) = found else {
         return Ok(());
@@ -124,8 +125,8 @@ fn add_differences(
     left: &mut Left,
     all: &mut Vec<Difference>,
 ) -> Result<(), AllocError>
-    requires { All (AnswerUnlike (accepted_insns old.now) (accepted_insns new.now)) all.old.items }
-    ensures { IfOk result (λ _. All (AnswerUnlike (accepted_insns old.now) (accepted_insns new.now)) all.new.items) }
+    requires { All (AnswerUnlike family (accepted_insns old.now) (accepted_insns new.now)) all.old.items }
+    ensures { IfOk result (λ _. All (AnswerUnlike family (accepted_insns old.now) (accepted_insns new.now)) all.new.items) }
 {
     for number in numbers {
         let call = plain_call(token, *number);
@@ -144,7 +145,7 @@ pub fn find_differences(
     old: &Accepted<'_>,
     new: &Accepted<'_>,
 ) -> Result<Vec<Difference>, AllocError>
-    ensures { IfOk result (λ all. All (AnswerUnlike (accepted_insns old.now) (accepted_insns new.now)) all.items) }
+    ensures { IfOk result (λ all. All (AnswerUnlike family (accepted_insns old.now) (accepted_insns new.now)) all.items) }
 {
     let mut all = Vec::new(alloc);
     let numbers = numbers_of(alloc, family.machines(), old, new)?;

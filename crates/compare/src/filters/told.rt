@@ -66,7 +66,7 @@ pub fn compare_filters(
     old: &[u8],
     new: &[u8],
 ) -> Result<Told, AllocError>
-    ensures { IfOk result (spec.IsTold old.now new.now) }
+    ensures { IfOk result (spec.IsTold native old.now new.now) }
 {
     let outcome = outcome_of(alloc, native.family(), old, new)?;
     let text = text_of(alloc, &outcome)?;

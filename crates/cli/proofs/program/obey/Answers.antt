@@ -8,7 +8,6 @@ use Rattle.cli.specs.Told.{OfArguments, OfBundle, of_none, of_one, of_two}
 use Rattle.cli.specs.Flat.{TellsFlat}
 use Rattle.cli.specs.Recovered.{TellsAsked, has_word}
 use Rattle.cli.specs.Written.{WritesMade}
-use Rattle.cli.specs.Tuned.{TellsTuned}
 use Rattle.together.specs.declared.way.Way.TheVariants.{Laxest, Strictest}
 use Rattle.cli.specs.inner.Telling.{told_in}
 use Rattle.cli.specs.Read.{TellsLinted}
@@ -87,14 +86,6 @@ returns-in-Recover-clause-does g c = rw c.in-Recover.is (
       (of_one (λ file. WritesMade c.args.parts.native (has_word (codes "bundle") (texts c.args.parts.from_three.now))
       (TellsAsked c.args.parts.native (texts c.args.parts.from_three.now) (read_as c.args.parts.native file)))) c.args.out.now c.tell_both-in-Recover.new.out
       c.tell_both-in-Recover.result (told_in c.recovered.result) c.recovered.ensures c.tell_both-in-Recover.ensures.told,
-)
-
-pub returns-in-Tune-clause-does : goal.returns-in-Tune-clause-does
-returns-in-Tune-clause-does g c = rw c.in-Tune.is (
-  refl,
-  answers_told g.O.Sink.held g.O.Sink.failures (g.F.Files.folder c.args.files.now) (c.args.parts.two.now ∷ c.args.parts.three.now ∷ [])
-      (of_two (λ text counts. OfBundle c.args.parts.native (TellsTuned c.args.parts.native) text)) c.args.out.now c.tell_both-in-Tune.new.out
-      c.tell_both-in-Tune.result (told_in c.filter_for_counts.result) c.filter_for_counts.ensures c.tell_both-in-Tune.ensures.told,
 )
 
 pub returns-in-Manual-clause-does : goal.returns-in-Manual-clause-does

@@ -15,7 +15,7 @@ returns-then-eq g c =
     subst (λ b. AnswersCompare g.O.Sink.held g.O.Sink.failures (g.F.Files.folder c.args.files.now) c.args.out.now c.tell.new.out b (read c.args.parts) c.tell.result)
     c.if-eq.ensures
     (answers_told g.O.Sink.held g.O.Sink.failures (g.F.Files.folder c.args.files.now) (c.args.parts.two.now ∷ c.args.parts.three.now ∷ [])
-    (of_two (λ old new. IsTold (read_as c.args.parts.native old) (read_as c.args.parts.native new)))
+    (of_two (λ old new. IsTold c.args.parts.native (read_as c.args.parts.native old) (read_as c.args.parts.native new)))
     c.args.out.now c.tell.new.out c.tell.result c.filters_compared.result c.filters_compared.ensures c.tell.ensures)
 
 pub returns : goal.returns

@@ -12,3 +12,7 @@ returns-in-Certificate-clause-recovered c = λ native filter is.
 pub returns-in-Convicting-clause-reason : goal.returns-in-Convicting-clause-reason
 returns-in-Convicting-clause-reason c = λ native filter is.
     (string_bytes c.args.bundle, subst (IsEvidenceFor native (string_bytes c.args.bundle) filter) c.in-Convicting.is is)
+
+pub returns-in-Convicting-clause-draft : goal.returns-in-Convicting-clause-draft
+returns-in-Convicting-clause-draft c = λ native filter is.
+    subst (IsEvidenceFor native (string_bytes c.args.bundle) filter) c.in-Convicting.is is

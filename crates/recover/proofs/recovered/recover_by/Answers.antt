@@ -9,7 +9,7 @@ returns-clause-recovered c =
     let filter = c.args.filter.now in
     c.handed_out_if_judged.ensures.recovered c.args.native filter
     (subst (λ (bytes : List ℕ). IsJudgement c.args.native bytes filter judged)
-    (c.new-document.ensures.bytes ∙ c.in-Ok.ensures.items ∙ c.as_bytes.ensures.value)
+    (c.new-document.ensures.bytes ∙ c.in-Ok-from_slice.ensures.items ∙ c.as_bytes.ensures.value)
     (subst (λ (n : Arch). IsJudgement n c.new-document.result.bytes filter judged) c.new-document.ensures.native
     c.judge_bundle-judged.ensures.found))
 
@@ -19,6 +19,16 @@ returns-clause-reason c =
     let filter = c.args.filter.now in
     c.handed_out_if_judged.ensures.reason c.args.native filter
     (subst (λ (bytes : List ℕ). IsJudgement c.args.native bytes filter judged)
-    (c.new-document.ensures.bytes ∙ c.in-Ok.ensures.items ∙ c.as_bytes.ensures.value)
+    (c.new-document.ensures.bytes ∙ c.in-Ok-from_slice.ensures.items ∙ c.as_bytes.ensures.value)
+    (subst (λ (n : Arch). IsJudgement n c.new-document.result.bytes filter judged) c.new-document.ensures.native
+    c.judge_bundle-judged.ensures.found))
+
+pub returns-clause-draft : goal.returns-clause-draft
+returns-clause-draft c =
+    let judged = c.judge_bundle-judged.result in
+    let filter = c.args.filter.now in
+    c.handed_out_if_judged.ensures.draft c.args.native filter
+    (subst (λ (bytes : List ℕ). IsJudgement c.args.native bytes filter judged)
+    (c.new-document.ensures.bytes ∙ c.in-Ok-from_slice.ensures.items ∙ c.as_bytes.ensures.value)
     (subst (λ (n : Arch). IsJudgement n c.new-document.result.bytes filter judged) c.new-document.ensures.native
     c.judge_bundle-judged.ensures.found))

@@ -14,12 +14,12 @@ returns c = λ one other same_one same_other unlike_bytes.
     let old : List Insn = accepted_insns c.args.old.now in
     let new : List Insn = accepted_insns c.args.new.now in
     let changes : List Change = c.in_ok-changes.changes.items in
-    let unlike : All (AnswerUnlike old new) c.deref.result.now =
-    subst (λ (list : List Difference). All (AnswerUnlike old new) list) (sym {A = List Difference} c.deref.ensures.value) c.in_ok-all.ensures in
-    let told : All (IsUnlike old new) changes = c.in_ok-changes.ensures old new unlike in (
+    let unlike : All (AnswerUnlike c.args.family old new) c.deref.result.now =
+    subst (λ (list : List Difference). All (AnswerUnlike c.args.family old new) list) (sym {A = List Difference} c.deref.ensures.value) c.in_ok-all.ensures in
+    let told : All (IsUnlike c.args.family old new) changes = c.in_ok-changes.ensures c.args.family old new unlike in (
       λ none. c.if-are_none.ensures refl (c.as_slice.ensures.value ∙ none),
-      subst (λ (p : List Insn). All (IsUnlike p (insns_of other)) changes) same_one
-          (subst (λ (q : List Insn). All (IsUnlike old q) changes) same_other told),
+      subst (λ (p : List Insn). All (IsUnlike c.args.family p (insns_of other)) changes) same_one
+          (subst (λ (q : List Insn). All (IsUnlike c.args.family old q) changes) same_other told),
     )
 
 pub returns-then-are_none : goal.returns-then-are_none

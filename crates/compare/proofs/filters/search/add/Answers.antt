@@ -7,8 +7,8 @@ use Rattle.compare.specs.Differ.{AnswerUnlike}
 use Rattle.compare.proofs.filters.search.add.Goals as goal
 
 pub returns : goal.returns
-returns c = λ old new is all.
-    let told : AnswerUnlike old new c.in-Some.found =
-    subst (λ (found : Option Difference). IfSome found (AnswerUnlike old new)) c.in-Some.is is in
-    subst (λ (list : List Difference). All (AnswerUnlike old new) list) (sym c.in_ok-push.ensures.items)
-    (All-push (AnswerUnlike old new) c.args.all.now.items c.in-Some.found all told)
+returns c = λ f old new is all.
+    let told : AnswerUnlike f old new c.in-Some.found =
+    subst (λ (found : Option Difference). IfSome found (AnswerUnlike f old new)) c.in-Some.is is in
+    subst (λ (list : List Difference). All (AnswerUnlike f old new) list) (sym c.in_ok-push.ensures.items)
+    (All-push (AnswerUnlike f old new) c.args.all.now.items c.in-Some.found all told)

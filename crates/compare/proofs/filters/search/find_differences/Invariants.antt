@@ -4,4 +4,4 @@ use Rattle.compare.specs.Differ.{AnswerUnlike}
 use Rattle.compare.proofs.filters.search.find_differences.Given as goal
 
 abbrev pub invariant-loop-machine : goal.invariant-loop-machine
-invariant-loop-machine l = All (AnswerUnlike (accepted_insns l.old) (accepted_insns l.new)) l.all.items
+invariant-loop-machine l = All (AnswerUnlike l.family (accepted_insns l.old) (accepted_insns l.new)) l.all.items

@@ -1,4 +1,4 @@
-use Rattle.std.proofs.Common.{◌<◌, inl, inr, length, take, ap, ◌∙◌, sym, arith}
+use Rattle.std.proofs.Common.{◌≡◌, ◌<◌, inl, inr, length, take, ap, ◌∙◌, sym, arith}
 use Rattle.std.proofs.lemmas.List.{take_all, take_more}
 use Rattle.std.proofs.lemmas.List.Elements.{All-get_or}
 use Rattle.std.specs.List.{list_any}

@@ -1,4 +1,4 @@
-use Rattle.std.proofs.Common.{◌≡◌, [], sym, ◌∙◌, arith, vec_len}
+use Rattle.std.proofs.Common.{◌≡◌, [], refl, sym, ◌∙◌, arith, vec_len}
 use Rattle.std.proofs.lemmas.Bool.{eqb-true}
 use Rattle.std.proofs.lemmas.List.{nil_from_length}
 use Rattle.compare.proofs.lint.decided.finding_of.Goals as goal

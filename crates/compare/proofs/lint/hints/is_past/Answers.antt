@@ -1,4 +1,4 @@
-use Rattle.std.proofs.Common.{◌≡◌, length, inl, inr, refl, sym, ◌∙◌, ap, subst, arith, vec_len}
+use Rattle.std.proofs.Common.{◌≡◌, [], length, inl, inr, refl, sym, ◌∙◌, ap, subst, arith, vec_len}
 use Rattle.std.proofs.lemmas.Bool.{eqb-false, eqb-true, not-false, not-true}
 use Rattle.std.proofs.lemmas.List.{nil_from_length}
 use Rattle.differ.specs.declared.direction.Direction.TheVariants.{Less}

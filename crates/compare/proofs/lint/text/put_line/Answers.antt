@@ -1,4 +1,4 @@
-use Rattle.std.proofs.Common.{◌++◌, ℕ, List, ap, ◌∙◌, append_assoc}
+use Rattle.std.proofs.Common.{◌≡◌, ◌++◌, ℕ, List, ap, ◌∙◌, append_assoc}
 use Rattle.std.specs.Prelude.{codes, string_bytes}
 use Rattle.compare.specs.LintTold.{unlike_text}
 use Rattle.compare.proofs.lint.text.put_line.Goals as goal
