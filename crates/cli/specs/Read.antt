@@ -1,8 +1,9 @@
 -- What `read` and `lint` tell of a bundle.
-use Rattle.std.specs.Prelude.{ℕ, ◌≡◌, ◌⊎◌, true, List, ◌++◌, codes}
+use Rattle.std.specs.Prelude.{ℕ, ◌≡◌, ◌⊎◌, Bool, true, false, if◌then◌else◌, List, [], ◌++◌, codes}
 use Rattle.machines.specs.declared.arch.Arch.{Arch}
 use Rattle.constant_names.specs.Told.{AreNames}
-use Rattle.compare.specs.Hints.{IsUnhinted, SomeGetPast}
+use Rattle.compare.specs.Hints.{IsHint}
+use Rattle.compare.specs.declared.lint.hints.Hinted.{Hinted}
 use Rattle.compare.specs.Linted.{IsLinted}
 use Rattle.show.specs.Read.{IsReadOut}
 use Rattle.show.specs.Unread.{RefusesUnread}
@@ -17,24 +18,26 @@ pub record HasNames (native : Arch) (bundle : List ℕ) (inner told : Told) : Ty
   pub text : told.bytes.items ≡ inner.bytes.items ++ lines
   pub done : told.done ≡ inner.done
 
--- the line behind what a bundle means
-abbrev pub hint : List ℕ
-hint = codes "ccell lint reports calls that get past this bundle\n"
+-- the lines behind what a bundle means: if calls get past it, and if it stops some
+abbrev pub past_line : Bool → List ℕ
+past_line is = if is then codes "ccell lint reports calls that get past this bundle\n" else []
 
--- it was done, and the line stands behind what is told
-pub record HasHint (inner told : Told) : Type 0 where
-  pub text : told.bytes.items ≡ inner.bytes.items ++ hint
-  pub meant : inner.done ≡ true
-  pub done : told.done ≡ true
+abbrev pub stopped_line : Bool → List ℕ
+stopped_line is = if is then codes "ccell lint reports calls that this bundle stops by bits that Linux does not read\n" else []
 
--- What the bundle means, or why it is refused, and the names of constants. If the line stands behind these, some call gets past the
--- bundle; if not, there is a reason.
+-- those lines stand behind what is told
+pub record HasHint (hint : Hinted) (inner told : Told) : Type 0 where
+  pub text : told.bytes.items ≡ inner.bytes.items ++ (past_line hint.past ++ stopped_line hint.stopped)
+  pub done : told.done ≡ inner.done
+
+-- What the bundle means, or why it is refused, and the names of constants. If it is not refused, the lines behind these tell what `lint`
+-- has to report.
 pub record TellsRead (native : Arch) (bundle : List ℕ) (told : Told) : Type 0 where
   pub meaning : Told
   pub is_read : IsReadOut native bundle meaning
   pub inner : Told
   pub named : HasNames native bundle meaning inner
-  pub hinted : (HasHint inner told × SomeGetPast native bundle) ⊎ ((told ≡ inner) × (inner.done ≡ true → IsUnhinted native bundle))
+  pub hinted : ((told ≡ inner) × (inner.done ≡ false)) ⊎ ((hint : Hinted) × HasHint hint inner told × IsHint native bundle hint)
 
 -- What `lint` finds, the lines of what is not read, and the names of constants. It is done only if nothing is found, and all is read.
 pub record TellsLinted (native : Arch) (bundle : List ℕ) (told : Told) : Type 0 where

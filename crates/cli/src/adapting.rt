@@ -11,6 +11,7 @@ use crate::files::{Files, read};
 use crate::forms::{form_in, in_form};
 use crate::grouping::{part_words, with_groups};
 use crate::stops::Stop;
+use compare::lint::Hinted;
 use engines::{Adapted, Wanted, adapt, wanted_of};
 use machines::Arch;
 use profile_json::Document;
@@ -82,8 +83,23 @@ fn narrowed(alloc: Global, native: Arch, made: Adapted) -> Result<Both, AllocErr
 }
 
 // Behind the changes, if a call gets past the bundle that was made.
-const HINT: &str =
+const PAST: &str =
     "ccell: lint reports calls that get past this bundle; narrow behind the file keeps them out\n";
+
+// The same, if a call is stopped by it.
+const STOPPED: &str =
+    "ccell: lint reports calls that this bundle stops by bits that Linux does not read; narrow behind the file heeds those alone that it reads\n";
+
+// The lines of what `lint` has to report.
+fn push_hint(changes: &mut String, hint: Hinted) -> Result<(), AllocError> {
+    if hint.past {
+        changes.push_str(PAST)?;
+    }
+    if hint.stopped {
+        changes.push_str(STOPPED)?;
+    }
+    Ok(())
+}
 
 // A bundle that was made, with its changes, and whether `lint` has a call to report.
 fn hinted(alloc: Global, native: Arch, made: Adapted) -> Result<Both, AllocError>
@@ -96,10 +112,8 @@ fn hinted(alloc: Global, native: Arch, made: Adapted) -> Result<Both, AllocError
     } = made;
     if told.done {
         let bytes = Vec::from_slice(alloc, &told.bytes)?;
-        let is_passed = compare::lint::hint(alloc, &Document::new(alloc, bytes, native))?;
-        if is_passed {
-            changes.push_str(HINT)?;
-        }
+        let hint = compare::lint::hint(alloc, &Document::new(alloc, bytes, native))?;
+        push_hint(&mut changes, hint)?;
     }
     Ok(Both { told, changes })
 }

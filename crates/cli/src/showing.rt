@@ -5,6 +5,7 @@ ghost use Rattle.byte_order.specs.Turned.{read_as};
 ghost use Rattle.show.specs.Read.{IsReadOut};
 ghost use Rattle.show.specs.Shown.{IsAnnotated, IsDrawn};
 ghost use Rattle.rules_text.specs.Text.{IsTextOf};
+ghost use Rattle.cli.specs.Read as spec;
 ghost use Rattle.cli.specs.Read.{HasHint, HasNames, TellsRead, TellsRules};
 ghost use Rattle.cli.specs.Told.{OfBundle, of_one};
 ghost use Rattle.cli.specs.inner.Telling.{IsToldOf};
@@ -13,6 +14,7 @@ ghost use Rattle.wording.specs.declared.told.Told.{Told as TheTold};
 use crate::files::{Files, read_document, read_filter};
 use crate::naming::with_names;
 use crate::stops::Stop;
+use compare::lint::Hinted;
 use machines::Arch;
 use profile_json::Document;
 use rules_text::bundle_text;
@@ -67,18 +69,38 @@ pub(crate) fn drawn<'a, F: Files>(
 }
 
 // Behind what a bundle means, if a call gets past it.
-const HINT: &str = "ccell lint reports calls that get past this bundle\n";
+fn past_line(is: bool) -> &'static str
+    ensures { result.now ≡ spec.past_line is }
+{
+    if is {
+        "ccell lint reports calls that get past this bundle\n"
+    } else {
+        ""
+    }
+}
 
-// What was told, with the line behind it.
-fn with_hint(told: Told) -> Result<Told, AllocError>
-    ensures { told.done ≡ true → IfOk result (HasHint told) }
+// The same, if a call is stopped by it.
+fn stopped_line(is: bool) -> &'static str
+    ensures { result.now ≡ spec.stopped_line is }
+{
+    if is {
+        "ccell lint reports calls that this bundle stops by bits that Linux does not read\n"
+    } else {
+        ""
+    }
+}
+
+// What was told, with the lines of what `lint` has to report behind it.
+fn with_hint(told: Told, hint: Hinted) -> Result<Told, AllocError>
+    ensures { IfOk result (HasHint hint told) }
 {
     let Told { mut bytes, done } = told;
-    bytes.extend_from_slice(HINT.as_bytes())?;
+    bytes.extend_from_slice(past_line(hint.past).as_bytes())?;
+    bytes.extend_from_slice(stopped_line(hint.stopped).as_bytes())?;
     Ok(Told { bytes, done })
 }
 
-// The same, if `lint` has a call to report.
+// The same, if the bundle is not refused.
 fn hinted(alloc: Global, document: &Document, told: Told) -> Result<Told, AllocError>
     ensures { (meaning : TheTold) → IsReadOut document.now.native document.now.bytes meaning
         → HasNames document.now.native document.now.bytes meaning told
@@ -87,11 +109,8 @@ fn hinted(alloc: Global, document: &Document, told: Told) -> Result<Told, AllocE
     if !told.done {
         return Ok(told);
     }
-    let is_passed = compare::lint::hint(alloc, document)?;
-    if !is_passed {
-        return Ok(told);
-    }
-    with_hint(told)
+    let hint = compare::lint::hint(alloc, document)?;
+    with_hint(told, hint)
 }
 
 // What a bundle means, or where it is wrong, the names of its constants, and whether `lint` has a call to report.

@@ -101,11 +101,13 @@ Example: ccell read linux-x86-64 web.json
 ";
 
 const LINT: &str =
-    "Reports each call that gets past the bundle by bits that the kernel does not read, and each that is
-stopped by them: with the entry, both values, and the records. The same call with these bits at 0 is
-answered otherwise. No such call is left out; one with too many answers may be undecided, and is named.
-Remarks follow, on conditions that mean little, and on members that are not read.
-Status 0 if no call gets past or is stopped so, and each member is read; 4 if the bundle is refused, or 1.
+    "Reports each call that the bundle lets through, and refuses if the bits that the kernel does not
+read are 0: it gets past. Then each call that the bundle refuses, and lets through if these bits are
+0: it is stopped. Each has its entry, both values, and the records. A call that is left to a tracer
+or a listener goes further than a refused one, and less far than one that is let through. None is
+left out; one with too many answers may be undecided, and is named. Remarks follow, on conditions
+that mean little, on refused calls that report success, and on members that are not read.
+Status 0 if no call gets past or is stopped and each member is read, 4 if the bundle is refused, or 1.
 
 Example: ccell lint linux-x86-64 web.json
 ";

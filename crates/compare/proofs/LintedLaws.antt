@@ -1,5 +1,6 @@
 -- What is told of a bundle, by what is told of its parts.
-use Rattle.std.proofs.Common.{ℕ, ◌≡◌, ◌++◌, Bool, false, List, inl, inr}
+use Rattle.std.proofs.Common.{ℕ, ◌≡◌, ◌++◌, false, List, inl, inr}
+use Rattle.std.proofs.lemmas.Bool.{both_ways}
 use Rattle.std.specs.Prelude.{◌≢◌, IfOk, IfSome, Result, Ok, Err, codes}
 use Rattle.machines.specs.declared.arch.Arch.{Arch}
 use Rattle.wording.specs.Told.{TellsLine}
@@ -8,8 +9,8 @@ use Rattle.profile_json.specs.Breaks.{Breaks}
 use Rattle.profile_json.specs.Fault.{fault_of, text_of}
 use Rattle.profile_json.specs.declared.fault.ProfileError.{ProfileError}
 use Rattle.profile_json.specs.declared.fault.ProfileError.TheVariants.{OutOfMemory}
-use Rattle.profile_json.specs.declared.fault.ProfileError.TheVariants.{OutOfMemory}
-use Rattle.compare.specs.Hints.{IsUnhinted, refused}
+use Rattle.compare.specs.Hints.{IsHint, refused}
+use Rattle.compare.specs.declared.lint.hints.Hinted.{Hinted}
 use Rattle.compare.specs.Linted.{IsJudged, IsLinted}
 
 module _ {E : Type 0} (native : Arch) (bundle : List ℕ) where
@@ -25,7 +26,12 @@ module _ {E : Type 0} (native : Arch) (bundle : List ℕ) where
   is_judged (Err x) h = h
 
   -- it is refused, and gets no hint
-  pub refused_hint : (e : ProfileError) (r : Result Bool E) → IfSome (fault_of e) (Breaks bundle native)
-      → IfOk r (λ told. e ≢ OutOfMemory) → IfOk r (λ told. told ≡ false → IsUnhinted native bundle)
-  refused_hint e (Ok told) stands fault = λ no. refused e fault stands
-  refused_hint e (Err x) stands fault = fault
+  pub refused_hint : (e : ProfileError) (r : Result Hinted E) → IfSome (fault_of e) (Breaks bundle native)
+      → IfOk r (λ hint. e ≢ OutOfMemory) → IfOk r (λ hint. hint.past ≡ false) → IfOk r (λ hint. hint.stopped ≡ false) → IfOk r (IsHint native bundle)
+  refused_hint e (Ok hint) stands fault past stopped = record {
+    past = λ told. absurd (both_ways hint.past past told);
+    not_past = λ told. refused e fault stands;
+    stopped = λ told. absurd (both_ways hint.stopped stopped told);
+    not_stopped = λ told. refused e fault stands;
+  }
+  refused_hint e (Err x) stands fault past stopped = fault

@@ -1,15 +1,16 @@
--- What gets past a profile, as lines tell it.
+-- What gets past a profile or is stopped by it, as lines tell it.
 use Rattle.std.proofs.Common.{◌≡◌, ◌≢◌, ℕ, inl, inr, true, false, List, [], ◌∷◌, refl, ap, ◌∙◌, sym}
 use Rattle.std.proofs.Common.{◌==◌, ◌&&◌, ◌||◌, ◌⊎◌, subst}
 use Rattle.std.proofs.lemmas.Bool.{and_parts, both_ways, cases_Bool, eq-eqb, eqb-true}
 use Rattle.std.proofs.lemmas.List.Elements.{All-head, All-tail}
 use Rattle.std.specs.List.{All, list_any}
 use Rattle.machines.specs.declared.arch.Family.{Family}
+use Rattle.differ.specs.declared.direction.Direction.{Direction}
 use Rattle.differ.specs.declared.named.Call.{Call}
 use Rattle.differ.specs.Named.{is_named}
 use Rattle.profile.specs.Policy.{Policy}
 use Rattle.unread_bits.specs.Crowded.{AreCrowded}
-use Rattle.unread_bits.specs.Past.{AreAllPast, GetsPast, NoneGetsPast, is_past_of}
+use Rattle.unread_bits.specs.Past.{AreAllPast, AreLikeOnCall, IsUnlike, is_past_of}
 use Rattle.unread_bits.specs.declared.calls.AllPast.{AllPast}
 use Rattle.unread_bits.specs.declared.past.Past.{Past}
 use Rattle.compare.specs.Complete.{is_crowded}
@@ -18,9 +19,9 @@ use Rattle.compare.specs.Past.{ArePast, IsUndecided}
 use Rattle.compare.specs.declared.search.Crowded.{Crowded}
 
 -- one of some calls
-pub some_gets_past : (p : Policy) (list : List Past) → All (GetsPast p) list → (list ≢ []) → (past : Past) × GetsPast p past
-some_gets_past p [] all some = absurd (some refl)
-some_gets_past p (x ∷ xs) all some = (x, All-head (GetsPast p) x xs all)
+pub some_is_unlike : (p : Policy) (d : Direction) (list : List Past) → All (IsUnlike p d) list → (list ≢ []) → (past : Past) × IsUnlike p d past
+some_is_unlike p d [] all some = absurd (some refl)
+some_is_unlike p d (x ∷ xs) all some = (x, All-head (IsUnlike p d) x xs all)
 
 -- one of some calls that are not decided
 some_crowded : (family : Family) (p : Policy) (list : List Crowded) → All (IsUndecided family p) list → (list ≢ [])
@@ -44,23 +45,23 @@ crowded_is family p (x ∷ xs) t n all h = elim (cases_Bool (is_crowded t n x)) 
       (subst (λ b. (b || list_any (is_crowded t n) xs) ≡ true) other h)
 ]
 
-none_or_open : (family : Family) (p : Policy) (list : List Past) (crowded : List Crowded) (t n : ℕ) → All (IsUndecided family p) crowded
-    → list ≡ [] → NoneGetsPast p t n ⊎ ((list_any (is_past_of t n) list ≡ true) ⊎ (list_any (is_crowded t n) crowded ≡ true))
-    → NoneGetsPast p t n ⊎ AreCrowded p t n
-none_or_open family p list crowded t n undecided none h = elim h [
-  | inl not_past ↦ inl not_past
+none_or_open : (family : Family) (p : Policy) (d : Direction) (list : List Past) (crowded : List Crowded) (t n : ℕ) → All (IsUndecided family p) crowded
+    → list ≡ [] → AreLikeOnCall p t n d ⊎ ((list_any (is_past_of t n) list ≡ true) ⊎ (list_any (is_crowded t n) crowded ≡ true))
+    → AreLikeOnCall p t n d ⊎ AreCrowded p t n
+none_or_open family p d list crowded t n undecided none h = elim h [
+  | inl like ↦ inl like
   | inr other ↦ elim other [
     | inl told ↦ absurd (both_ways false refl (ap (list_any (is_past_of t n)) (sym none) ∙ told))
     | inr more ↦ inr (crowded_is family p crowded t n undecided more)
   ]
 ]
 
--- where calls are not decided and no other gets past
-pub left_open : (family : Family) (p : Policy) (list : List Past) (crowded : List Crowded) → ArePast family p list crowded → list ≡ []
-    → (crowded ≢ []) → IsLeftOpen p
-left_open family p list crowded are none some = record {
+-- where calls are not decided and no other has an unlike record
+pub left_open : (family : Family) (p : Policy) (d : Direction) (list : List Past) (crowded : List Crowded) → ArePast family p d list crowded → list ≡ []
+    → (crowded ≢ []) → IsLeftOpen p d
+left_open family p d list crowded are none some = record {
   undecided = some_crowded family p crowded are.are_crowded some;
-  others = λ t n on. none_or_open family p list crowded t n are.are_crowded none (are.complete t n on);
+  others = λ t n on. none_or_open family p d list crowded t n are.are_crowded none (are.complete t n on);
 }
 
 -- the crowded calls are named
@@ -76,9 +77,9 @@ none_named [] crowded named none = refl
 none_named (x ∷ xs) crowded named none =
     absurd (both_ways false refl (ap (list_any (is_crowded x.token x.nr)) (sym none) ∙ named x.token x.nr (self_named x xs)))
 
-pub past_are : (family : Family) (p : Policy) (all : AllPast) (crowded : List Crowded) → AreAllPast p all
-    → All (IsUndecided family p) crowded → AreNamed all.crowded.items crowded → ArePast family p all.found.items crowded
-past_are family p all crowded is undecided named = record {
+pub past_are : (family : Family) (p : Policy) (d : Direction) (all : AllPast) (crowded : List Crowded) → AreAllPast p d all
+    → All (IsUndecided family p) crowded → AreNamed all.crowded.items crowded → ArePast family p d all.found.items crowded
+past_are family p d all crowded is undecided named = record {
   past = is.told.found;
   are_crowded = undecided;
   complete = λ t n on. elim (is.complete t n on) [

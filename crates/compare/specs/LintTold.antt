@@ -1,4 +1,4 @@
--- The text of `ccell lint`: which calls get past a profile.
+-- The text of `ccell lint`: which calls get past a profile, and which are stopped by it.
 use Rattle.std.specs.Prelude.{ℕ, suc, ◌≡◌, ◌==◌, Bool, true, false, if◌then◌else◌, List, [], ◌∷◌, ◌++◌, length, nat_lt, position}
 use Rattle.std.specs.Prelude.{Option, Some, None, codes}
 use Rattle.std.specs.Fmt.{decimal}
@@ -7,6 +7,9 @@ use Rattle.std.specs.List.{flat_map}
 use Rattle.std.specs.Option.{option_or}
 use Rattle.hex.specs.Hex.{encode_lower}
 use Rattle.texts.specs.Lines.{line_feed}
+use Rattle.call_record.specs.Fate.{fate_of}
+use Rattle.call_record.specs.declared.fate.Fate.{Fate}
+use Rattle.call_record.specs.declared.fate.Fate.TheVariants.{Refused, Left, LetThrough}
 use Rattle.call_record.specs.declared.layout.Record.{Record}
 use Rattle.call_record.specs.Record.{words}
 use Rattle.machines.specs.declared.arch.Arch.{Arch}
@@ -19,8 +22,10 @@ use Rattle.profile.specs.Said.{matches}
 use Rattle.profile_json.specs.ByEntry.{AreRulesOf}
 use Rattle.wording.specs.Phrases.{action_text, hexadecimal, machine_with}
 use Rattle.unread_bits.specs.declared.past.Past.{Past}
+use Rattle.compare.specs.declared.lint.past.Way.{Way}
+use Rattle.compare.specs.declared.lint.past.Way.TheVariants.{GetsPast, IsStopped}
 use Rattle.compare.specs.declared.lint.past.Finding.{Finding}
-use Rattle.compare.specs.declared.lint.past.Finding.TheVariants.{Nothing, GetPast, Undecided}
+use Rattle.compare.specs.declared.lint.past.Finding.TheVariants.{Nothing, Unlike, Undecided}
 use Rattle.compare.specs.declared.search.Crowded.{Crowded}
 
 -- ---- the place
@@ -34,7 +39,7 @@ entry_with ends None = None
 abbrev pub entry_of : List Rule → List ℕ → Record → Option ℕ
 entry_of rules ends call = entry_with ends (position (λ rule. matches rule (words call)) rules)
 
--- the entry that lets the call through, or else the one that refuses the same with the bits at 0 that are not read
+-- the entry that answers the call, or else the one that answers the same with the bits at 0 that are not read
 abbrev pub place_of : List Rule → List ℕ → Record → Record → Option ℕ
 place_of rules ends call cleared = option_or (entry_of rules ends call) (entry_of rules ends cleared)
 
@@ -57,26 +62,37 @@ call_text None nr = codes "call " ++ decimal nr
 abbrev pub joint_of : Bool → List ℕ
 joint_of begun = if begun then codes ";" else codes ":"
 
--- an argument with a value, and what is so of it
-abbrev pub value_text : ℕ → ℕ → List ℕ → List ℕ
-value_text j value said = codes " arg" ++ decimal j ++ codes " = " ++ hexadecimal value ++ said
+-- what becomes of a call
+abbrev pub fate_text : Fate → List ℕ
+fate_text Refused = codes " is refused"
+fate_text Left = codes " is left to a tracer or a listener"
+fate_text LetThrough = codes " is let through"
 
--- what the kernel reads of both values
+-- an argument with a value, and what becomes of the call
+abbrev pub value_text : ℕ → ℕ → Fate → List ℕ
+value_text j value fate = codes " arg" ++ decimal j ++ codes " = " ++ hexadecimal value ++ fate_text fate ++ codes ","
+
+-- what the kernel reads of both values; what it reads of one, and what becomes of the call with that
 abbrev pub read_text : ℕ → List ℕ
 read_text read = codes " and Linux reads " ++ hexadecimal read ++ codes " of both"
 
--- an argument that is unlike in the two calls: as it is refused, as it is let through, and as it is read
-abbrev pub argument_text : Bool → ℕ → ℕ → ℕ → List ℕ
-argument_text begun j whole read =
-    joint_of begun ++ value_text j read (codes " is refused,") ++ value_text j whole (codes " is let through,") ++ read_text read
+abbrev pub only_text : ℕ → List ℕ → List ℕ
+only_text read said = codes " but Linux reads " ++ hexadecimal read ++ codes ", which" ++ said
+
+-- an argument that is unlike in the two calls: as it is read and as it goes further; or as it is stopped, and as it is read
+abbrev pub argument_text : Way → ℕ → ℕ → Bool → ℕ → ℕ → ℕ → List ℕ
+argument_text GetsPast word cleared_word begun j whole read =
+    joint_of begun ++ value_text j read (fate_of cleared_word) ++ value_text j whole (fate_of word) ++ read_text read
+argument_text IsStopped word cleared_word begun j whole read =
+    joint_of begun ++ value_text j whole (fate_of word) ++ only_text read (fate_text (fate_of cleared_word))
 
 -- the unlike ones, from this argument on
-abbrev pub arguments_from : Bool → ℕ → List ℕ → List ℕ → List ℕ
-arguments_from begun j (whole ∷ wholes) (read ∷ reads) =
+abbrev pub arguments_from : (Bool → ℕ → ℕ → ℕ → List ℕ) → Bool → ℕ → List ℕ → List ℕ → List ℕ
+arguments_from text begun j (whole ∷ wholes) (read ∷ reads) =
     if whole == read
-    then arguments_from begun (suc j) wholes reads
-    else argument_text begun j whole read ++ arguments_from true (suc j) wholes reads
-arguments_from begun j wholes reads = []
+    then arguments_from text begun (suc j) wholes reads
+    else text begun j whole read ++ arguments_from text true (suc j) wholes reads
+arguments_from text begun j wholes reads = []
 
 -- ---- the records
 
@@ -93,26 +109,38 @@ record_line word call = digits_line word (encode_lower (bytes_of call))
 
 -- ---- the text
 
--- where the call is let through, the call and its unlike arguments
-abbrev pub unlike_text : Family → List Rule → List ℕ → Past → List ℕ
-unlike_text family rules ends past =
+-- where the call is answered, the call and its unlike arguments
+abbrev pub unlike_text : Way → Family → List Rule → List ℕ → Past → List ℕ
+unlike_text way family rules ends past =
     place_text (place_of rules ends past.call past.cleared) ++ call_text (machine_with family past.call.arch past.call.nr) past.call.nr
-    ++ arguments_from false 0 past.call.args past.cleared.args
+    ++ arguments_from (argument_text way past.word past.cleared_word) false 0 past.call.args past.cleared.args
 
-abbrev pub unlike_line : Family → List Rule → List ℕ → Past → List ℕ
-unlike_line family rules ends past = unlike_text family rules ends past ++ codes "\n"
+abbrev pub unlike_line : Way → Family → List Rule → List ℕ → Past → List ℕ
+unlike_line way family rules ends past = unlike_text way family rules ends past ++ codes "\n"
 
--- this line, and then the record that is refused, and the one that is let through
-abbrev pub past_lines : Family → List Rule → List ℕ → Past → List ℕ
-past_lines family rules ends past =
-    unlike_line family rules ends past ++ record_line past.cleared_word past.cleared ++ record_line past.word past.call
+-- both records, the one first that goes less far
+abbrev pub records_text : Way → Past → List ℕ
+records_text GetsPast past = record_line past.cleared_word past.cleared ++ record_line past.word past.call
+records_text IsStopped past = record_line past.word past.call ++ record_line past.cleared_word past.cleared
 
--- how many get past
-abbrev pub calls_get : ℕ → List ℕ
-calls_get count = if count == 1 then codes "call gets" else codes "calls get"
+-- this line, and then the records
+abbrev pub past_lines : Way → Family → List Rule → List ℕ → Past → List ℕ
+past_lines way family rules ends past = unlike_line way family rules ends past ++ records_text way past
 
-abbrev pub count_line : ℕ → List ℕ
-count_line count = decimal count ++ codes " " ++ calls_get count ++ codes " past\n"
+-- how many there are
+abbrev pub count_text : Way → ℕ → List ℕ
+count_text GetsPast count = if count == 1 then codes " call gets past\n" else codes " calls get past\n"
+count_text IsStopped count =
+    if count == 1 then codes " call is stopped by bits that Linux does not read\n" else codes " calls are stopped by bits that Linux does not read\n"
+
+abbrev pub count_line : Way → ℕ → List ℕ
+count_line way count = decimal count ++ count_text way count
+
+-- all of a way and how many there are, if there are any
+abbrev pub list_text : Way → Family → List Rule → List ℕ → List Past → List ℕ
+list_text way family rules ends [] = []
+list_text way family rules ends (past ∷ list) =
+    flat_map (past_lines way family rules ends) (past ∷ list) ++ count_line way (length (past ∷ list))
 
 -- a call that is not decided
 abbrev pub crowded_line : Crowded → List ℕ
@@ -121,9 +149,10 @@ crowded_line call = codes "undecided TooLarge " ++ call_text call.arch call.nr +
 -- what was found, beside the rules of a bundle's entries
 abbrev pub found_text : Family → List Rule → List ℕ → Finding → List ℕ
 found_text family rules ends Nothing = codes "nothing gets past\n"
-found_text family rules ends (GetPast list) = flat_map (past_lines family rules ends) list.items ++ count_line (length list.items)
-found_text family rules ends (Undecided list crowded) =
-    flat_map (past_lines family rules ends) list.items ++ flat_map crowded_line crowded.items
+found_text family rules ends (Unlike past stopped) = list_text GetsPast family rules ends past.items ++ list_text IsStopped family rules ends stopped.items
+found_text family rules ends (Undecided past stopped crowded) =
+    flat_map (past_lines GetsPast family rules ends) past.items
+    ++ flat_map (past_lines IsStopped family rules ends) stopped.items ++ flat_map crowded_line crowded.items
 
 -- the text says what was found of a bundle; behind it may stand remarks, of which nothing is said here
 pub record TellsFound (native : Arch) (bundle : List ℕ) (found : Finding) (text : List ℕ) : Type 0 where

@@ -9,12 +9,12 @@ use Rattle.profile.specs.Policy.{Policy}
 use Rattle.compare.specs.LintTold.{TellsFound}
 use Rattle.compare.specs.Past.{IsFinding}
 use Rattle.compare.specs.declared.lint.past.Finding.{Finding}
-use Rattle.compare.specs.declared.lint.past.Finding.TheVariants.{Nothing, GetPast, Undecided}
+use Rattle.compare.specs.declared.lint.past.Finding.TheVariants.{Nothing, Unlike, Undecided}
 
 abbrev pub is_nothing : Finding → Bool
 is_nothing Nothing = true
-is_nothing (GetPast list) = false
-is_nothing (Undecided list crowded) = false
+is_nothing (Unlike past stopped) = false
+is_nothing (Undecided past stopped crowded) = false
 
 -- what is found of its profile is so, and told, and it is done where nothing is found
 pub record IsJudged (native : Arch) (bundle : List ℕ) (told : Told) : Type 0 where

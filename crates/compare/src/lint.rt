@@ -1,5 +1,6 @@
-//! Calls that get past a profile. It refuses a call, and lets through another one that is the same to the kernel. For it compares bits of
-//! an argument that the kernel does not read.
+//! Calls that get past a profile, and calls that are stopped by it. It refuses a call, and lets through another one that is the same to the
+//! kernel. For it compares bits of an argument that the kernel does not read.
+mod arguments;
 mod decided;
 mod hints;
 mod pairs;
@@ -10,6 +11,6 @@ mod text;
 mod told;
 
 pub use decided::finding;
-pub use hints::hint;
-pub use past::{Finding, Past};
+pub use hints::{Hinted, hint};
+pub use past::{Finding, Past, Way};
 pub use told::lint;

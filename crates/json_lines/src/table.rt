@@ -78,6 +78,7 @@ not_read {member}: is not read
 twice {member}: stands twice, and the last one counts
 constant in {call} arg{argument} {number} is {name}
 lint_reports ccell lint reports calls that get past this bundle
+lint_reports_stopped ccell lint reports calls that this bundle stops by bits that Linux does not read
 edition edition {edition}, and read as {read_as}
 refused_profile refused profile {number} {fault} {of}
 refused_profile refused profile {number} {fault}
@@ -93,9 +94,21 @@ rule {machine} {number} {verdict}
 const LINT: &str =
     "past linux.seccomp.syscalls[{entry}]: {call} of {machine}: {refused} is refused, {through} is let through, and Linux reads {reads} of both
 past {call} of {machine}: {refused} is refused, {through} is let through, and Linux reads {reads} of both
+past linux.seccomp.syscalls[{entry}]: {call} of {machine}: {refused} is refused, {left} is left to a tracer or a listener, and Linux reads {reads} of both
+past {call} of {machine}: {refused} is refused, {left} is left to a tracer or a listener, and Linux reads {reads} of both
+past linux.seccomp.syscalls[{entry}]: {call} of {machine}: {left} is left to a tracer or a listener, {through} is let through, and Linux reads {reads} of both
+past {call} of {machine}: {left} is left to a tracer or a listener, {through} is let through, and Linux reads {reads} of both
+stopped linux.seccomp.syscalls[{entry}]: {call} of {machine}: {refused} is refused, but Linux reads {reads}, which is let through
+stopped {call} of {machine}: {refused} is refused, but Linux reads {reads}, which is let through
+stopped linux.seccomp.syscalls[{entry}]: {call} of {machine}: {refused} is refused, but Linux reads {reads}, which is left to a tracer or a listener
+stopped {call} of {machine}: {refused} is refused, but Linux reads {reads}, which is left to a tracer or a listener
+stopped linux.seccomp.syscalls[{entry}]: {call} of {machine}: {left} is left to a tracer or a listener, but Linux reads {reads}, which is let through
+stopped {call} of {machine}: {left} is left to a tracer or a listener, but Linux reads {reads}, which is let through
 nothing_past nothing gets past
 past_in_all {calls} calls get past
 past_in_all {calls} call gets past
+stopped_in_all {calls} calls are stopped by bits that Linux does not read
+stopped_in_all {calls} call is stopped by bits that Linux does not read
 undecided undecided TooLarge {call} of {machine}
 remark remark: {remark}
 refused_profile refused profile {number} {fault} {of}

@@ -1,3 +1,4 @@
 pub mod PairLaws
 pub mod UnlikeLaws
 pub mod CallLaws
+pub mod AlikeLaws

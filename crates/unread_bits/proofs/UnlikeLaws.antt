@@ -1,5 +1,5 @@
 -- Calls of which unlike verdicts are said, by what two sides say of their arguments.
-use Rattle.std.proofs.Common.{◌≡◌, ℕ, zero, suc, ◌+◌, ◌%◌, ◌^◌, ◌<◌, Bool, true, false, List, [], ◌∷◌, get_or, refl, sym, ◌∙◌, ap, arith, subst}
+use Rattle.std.proofs.Common.{◌≡◌, ℕ, zero, suc, ◌%◌, ◌^◌, ◌<◌, Bool, true, false, List, [], ◌∷◌, get_or, refl, sym, ◌∙◌, ap, arith, subst}
 use Rattle.std.specs.Prelude.{if◌then◌else◌, nat_lt}
 use Rattle.std.proofs.Math.Nat.{mod-eq_of_lt}
 use Rattle.std.proofs.lemmas.Bool.{both_ways}
@@ -62,7 +62,7 @@ unsettled_from p token nr limited OutOfMemory crowded stop = tt
 
 -- ---- what is read
 
-six : (g : ℕ → ℕ) (j : ℕ) → j < 6 → get_or (g 0 ∷ g 1 ∷ g 2 ∷ g 3 ∷ g 4 ∷ g 5 ∷ []) j 0 ≡ g j
+pub six : (g : ℕ → ℕ) (j : ℕ) → j < 6 → get_or (g 0 ∷ g 1 ∷ g 2 ∷ g 3 ∷ g 4 ∷ g 5 ∷ []) j 0 ≡ g j
 six g zero lt = refl
 six g (suc zero) lt = refl
 six g (suc (suc zero)) lt = refl

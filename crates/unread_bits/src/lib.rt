@@ -3,11 +3,13 @@
 #![tactic(auto)]
 
 mod calls;
+mod law;
 mod named;
 mod on_call;
 mod past;
 mod sides;
 
 pub use calls::{AllPast, all_past};
+pub use law::alike_calls_go_equally_far;
 pub use on_call::past_on;
 pub use past::Past;

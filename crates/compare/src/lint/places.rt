@@ -27,7 +27,7 @@ fn entry_of(all: &EntryRules, call: &Record) -> Option<usize>
     }
 }
 
-/// The entry that lets a call through, or else the one that refuses the same with the bits at 0 that are not read.
+/// The entry that answers a call, or else the one that answers the same with the bits at 0 that are not read.
 pub(crate) fn place_of(all: &EntryRules, call: &Record, cleared: &Record) -> Option<usize>
     ensures { result ≡ spec.place_of all.now.rules.items all.now.ends.items call.now cleared.now }
 {

@@ -156,6 +156,27 @@ fn put_notified(text: &mut Text, all: &EntryRules, at: usize, rule: &Rule) {
     }
 }
 
+// Adds that a refused call reports success, of all calls that no rule is for.
+fn put_success_by_default(text: &mut Text, profile: &Profile) {
+    if profile.default_word() == Word::ERRNO {
+        text.put(
+            "remark: linux.seccomp.defaultAction: errno 0: the call is not made, and reports success\n",
+        );
+    }
+}
+
+// Adds that a refused call reports success, at the first rule of an entry.
+fn put_success(text: &mut Text, all: &EntryRules, at: usize, rule: &Rule) {
+    if rule.word != Word::ERRNO || is_same_entry(all, at) {
+        return;
+    }
+    if let Some(entry) = all.entry_of(at) {
+        text.put(format_args!(
+            "remark: linux.seccomp.syscalls[{entry}]: errno 0: the call is not made, and reports success\n"
+        ));
+    }
+}
+
 // Adds how many rules refuse calls that others would carry out alike, if the default refuses them.
 fn put_strict(text: &mut Text, profile: &Profile) {
     if lets_through(profile.default_word()) {
@@ -184,9 +205,11 @@ fn put_remarks(
     put_strict(text, profile);
     put_pairs(alloc, text, profile, all)?;
     put_notified_default(text, profile);
+    put_success_by_default(text, profile);
     for (at, rule) in all.rules.iter().enumerate() {
         put_default(text, profile, all, at, rule);
         put_notified(text, all, at, rule);
+        put_success(text, all, at, rule);
         if !rule.conds.as_slice().is_empty() {
             put_rule(text, all, at, rule);
         }

@@ -1,5 +1,5 @@
-//! The lines that tell what gets past.
-ghost use Rattle.std.specs.Prelude.{◌≡◌, ◌++◌, false, length, IfOk, string_bytes};
+//! The lines that tell what gets past and what is stopped.
+ghost use Rattle.std.specs.Prelude.{◌≡◌, ◌++◌, length, IfOk, string_bytes};
 ghost use Rattle.std.specs.List.{flat_map};
 ghost use Rattle.hex.specs.Hex.{encode_lower};
 ghost use Rattle.call_record.specs.Record.{words};
@@ -8,8 +8,10 @@ ghost use Rattle.call_tables.specs.Tables.{table_of};
 ghost use Rattle.call_tables.specs.Table.{name_in};
 ghost use Rattle.profile_json.specs.ByEntry.{AreRulesOf};
 ghost use Rattle.compare.specs.LintTold as spec;
+ghost use Rattle.compare.specs.declared.lint.past.Way.TheVariants.{GetsPast, IsStopped};
 
-use crate::lint::past::{Finding, Past};
+use crate::lint::arguments::put_arguments;
+use crate::lint::past::{Finding, Past, Way};
 use crate::lint::places::place_of;
 use crate::lint::remarks::remarks_of;
 use crate::search::Crowded;
@@ -40,66 +42,6 @@ fn put_call(text: &mut String, arch: Option<Arch>, nr: u32) -> Result<(), AllocE
         Some(arch) => put_call_on(text, arch, nr),
         None => write!(text, "call {nr}"),
     }
-}
-
-// What stands in front of an argument.
-fn joint_of(begun: bool) -> &'static str
-    ensures { result.now ≡ spec.joint_of begun }
-{
-    if begun { ";" } else { ":" }
-}
-
-// Adds an argument with a value, and what is so of it.
-fn put_value(text: &mut String, index: u32, value: u64, said: &str) -> Result<(), AllocError>
-    ensures { IfOk result (λ _. string_bytes text.new ≡ string_bytes text.old ++ spec.value_text index value said.now) }
-{
-    write!(text, " arg{index} = 0x{value:x}{said}")
-}
-
-// Adds what the kernel reads of both values.
-fn put_read(text: &mut String, read: u64) -> Result<(), AllocError>
-    ensures { IfOk result (λ _. string_bytes text.new ≡ string_bytes text.old ++ spec.read_text read) }
-{
-    write!(text, " and Linux reads 0x{read:x} of both")
-}
-
-// Adds an argument of which the two calls of a pair have unlike values.
-fn put_argument(
-    text: &mut String,
-    begun: bool,
-    index: u32,
-    whole: u64,
-    read: u64,
-) -> Result<(), AllocError>
-    ensures { IfOk result (λ _. string_bytes text.new ≡ string_bytes text.old ++ spec.argument_text begun index whole read) }
-{
-    text.push_str(joint_of(begun))?;
-    put_value(text, index, read, " is refused,")?;
-    put_value(text, index, whole, " is let through,")?;
-    put_read(text, read)
-}
-
-// Adds the arguments of which the two calls of a pair have unlike values.
-fn put_arguments(text: &mut String, mut wholes: &[u64], mut reads: &[u64]) -> Result<(), AllocError>
-    requires { length wholes.now ≡ 6 }
-    ensures { IfOk result (λ _. string_bytes text.new ≡ string_bytes text.old
-        ++ spec.arguments_from false 0 wholes.entry.now reads.entry.now) }
-{
-    let mut begun = false;
-    let mut index = 0;
-    while let [whole, rest @ ..] = wholes {
-        let [read, more @ ..] = reads else {
-            return Ok(());
-        };
-        if *whole != *read {
-            put_argument(text, begun, index, *whole, *read)?;
-            begun = true;
-        }
-        index += 1;
-        wholes = rest;
-        reads = more;
-    }
-    Ok(())
 }
 
 // The bytes of a record.
@@ -144,98 +86,167 @@ fn put_place(text: &mut String, place: Option<usize>) -> Result<(), AllocError>
     }
 }
 
-// Adds where a call gets past, the call and its unlike arguments.
+// Adds where a call is answered, the call and its unlike arguments.
 fn put_unlike(
     text: &mut String,
+    way: Way,
     family: Family,
     all: &EntryRules,
     past: &Past,
 ) -> Result<(), AllocError>
     ensures { IfOk result (λ _. string_bytes text.new ≡ string_bytes text.old
-        ++ spec.unlike_text family all.now.rules.items all.now.ends.items past.now) }
+        ++ spec.unlike_text way family all.now.rules.items all.now.ends.items past.now) }
 {
     let call = &past.call;
     put_place(text, place_of(all, call, &past.cleared))?;
     put_call(text, machine_with(family, call.arch, call.nr), call.nr)?;
-    put_arguments(text, &call.args, &past.cleared.args)
+    put_arguments(text, way, past, &call.args, &past.cleared.args)
 }
 
 // Adds the line of these.
 fn put_line(
     text: &mut String,
+    way: Way,
     family: Family,
     all: &EntryRules,
     past: &Past,
 ) -> Result<(), AllocError>
     ensures { IfOk result (λ _. string_bytes text.new ≡ string_bytes text.old
-        ++ spec.unlike_line family all.now.rules.items all.now.ends.items past.now) }
+        ++ spec.unlike_line way family all.now.rules.items all.now.ends.items past.now) }
 {
-    put_unlike(text, family, all, past)?;
+    put_unlike(text, way, family, all, past)?;
     text.push_str("\n")?;
     Ok(())
 }
 
-// Adds the lines of a call that gets past.
+// Adds the lines of two records.
+fn put_pair(
+    alloc: Global,
+    text: &mut String,
+    first_word: Word,
+    first: &Record,
+    second_word: Word,
+    second: &Record,
+) -> Result<(), AllocError>
+    ensures { IfOk result (λ _. string_bytes text.new ≡ string_bytes text.old
+        ++ spec.record_line first_word first.now ++ spec.record_line second_word second.now) }
+{
+    put_record(alloc, text, first_word, first)?;
+    put_record(alloc, text, second_word, second)
+}
+
+// Adds the lines of both records, the one first that goes less far.
+fn put_records(alloc: Global, text: &mut String, way: Way, past: &Past) -> Result<(), AllocError>
+    ensures { IfOk result (λ _. string_bytes text.new ≡ string_bytes text.old ++ spec.records_text way past.now) }
+{
+    match way {
+        Way::GetsPast => put_pair(
+            alloc,
+            text,
+            past.cleared_word,
+            &past.cleared,
+            past.word,
+            &past.call,
+        ),
+        Way::IsStopped => put_pair(
+            alloc,
+            text,
+            past.word,
+            &past.call,
+            past.cleared_word,
+            &past.cleared,
+        ),
+    }
+}
+
+// Adds the lines of a call.
 fn put_past(
     alloc: Global,
     text: &mut String,
+    way: Way,
     family: Family,
     all: &EntryRules,
     past: &Past,
 ) -> Result<(), AllocError>
     ensures { IfOk result (λ _. string_bytes text.new ≡ string_bytes text.old
-        ++ spec.past_lines family all.now.rules.items all.now.ends.items past.now) }
+        ++ spec.past_lines way family all.now.rules.items all.now.ends.items past.now) }
 {
-    put_line(text, family, all, past)?;
-    put_record(alloc, text, past.cleared_word, &past.cleared)?;
-    put_record(alloc, text, past.word, &past.call)
+    put_line(text, way, family, all, past)?;
+    put_records(alloc, text, way, past)
 }
 
-// Adds the lines of all that get past.
+// Adds the lines of all of a way.
 fn put_all(
     alloc: Global,
     text: &mut String,
+    way: Way,
     family: Family,
     all: &EntryRules,
     list: &[Past],
 ) -> Result<(), AllocError>
     ensures { IfOk result (λ _. string_bytes text.new ≡ string_bytes text.old
-        ++ flat_map (spec.past_lines family all.now.rules.items all.now.ends.items) list.now) }
+        ++ flat_map (spec.past_lines way family all.now.rules.items all.now.ends.items) list.now) }
 {
     for past in list {
-        put_past(alloc, text, family, all, past)?;
+        put_past(alloc, text, way, family, all, past)?;
     }
     Ok(())
 }
 
 // What stands behind how many there are.
-fn calls_get(count: usize) -> &'static str
-    ensures { result.now ≡ spec.calls_get count }
+fn count_text(way: Way, count: usize) -> &'static str
+    ensures { result.now ≡ spec.count_text way count }
 {
-    if count == 1 { "call gets" } else { "calls get" }
+    match (way, count == 1) {
+        (Way::GetsPast, true) => " call gets past\n",
+        (Way::GetsPast, false) => " calls get past\n",
+        (Way::IsStopped, true) => " call is stopped by bits that Linux does not read\n",
+        (Way::IsStopped, false) => " calls are stopped by bits that Linux does not read\n",
+    }
 }
 
-// Adds the line of how many get past.
-fn put_count(text: &mut String, count: usize) -> Result<(), AllocError>
-    ensures { IfOk result (λ _. string_bytes text.new ≡ string_bytes text.old ++ spec.count_line count) }
+// Adds the line of how many there are.
+fn put_count(text: &mut String, way: Way, count: usize) -> Result<(), AllocError>
+    ensures { IfOk result (λ _. string_bytes text.new ≡ string_bytes text.old ++ spec.count_line way count) }
 {
-    let calls = calls_get(count);
-    writeln!(text, "{count} {calls} past")
+    let calls = count_text(way, count);
+    write!(text, "{count}{calls}")
 }
 
-// Adds the lines of all that get past, and of how many there are.
+// Adds the lines of all of a way, and of how many there are, if there are any.
 fn put_list(
     alloc: Global,
     text: &mut String,
+    way: Way,
     family: Family,
     all: &EntryRules,
     list: &[Past],
 ) -> Result<(), AllocError>
     ensures { IfOk result (λ _. string_bytes text.new ≡ string_bytes text.old
-        ++ flat_map (spec.past_lines family all.now.rules.items all.now.ends.items) list.now ++ spec.count_line (length list.now)) }
+        ++ spec.list_text way family all.now.rules.items all.now.ends.items list.now) }
 {
-    put_all(alloc, text, family, all, list)?;
-    put_count(text, list.len())
+    if list.is_empty() {
+        return Ok(());
+    }
+    put_all(alloc, text, way, family, all, list)?;
+    put_count(text, way, list.len())
+}
+
+// Adds the lines of those that get past, and of those that are stopped.
+fn put_both(
+    alloc: Global,
+    text: &mut String,
+    family: Family,
+    all: &EntryRules,
+    past: &[Past],
+    stopped: &[Past],
+) -> Result<(), AllocError>
+    ensures { IfOk result (λ _. string_bytes text.new ≡ string_bytes text.old
+        ++ spec.list_text GetsPast family all.now.rules.items all.now.ends.items past.now
+        ++ spec.list_text IsStopped family all.now.rules.items all.now.ends.items stopped.now) }
+{
+    put_list(alloc, text, Way::GetsPast, family, all, past)?;
+    put_list(alloc, text, Way::IsStopped, family, all, stopped)
 }
 
 // Adds the line of a call that is not decided.
@@ -258,19 +269,23 @@ fn put_all_crowded(text: &mut String, calls: &[Crowded]) -> Result<(), AllocErro
     Ok(())
 }
 
-// Adds the lines of calls that get past, and of those that are not decided.
+// Adds the lines of calls that get past, of those that are stopped, and of those that are not decided.
 fn put_undecided(
     alloc: Global,
     text: &mut String,
     family: Family,
     all: &EntryRules,
-    list: &[Past],
+    past: &[Past],
+    stopped: &[Past],
     crowded: &[Crowded],
 ) -> Result<(), AllocError>
     ensures { IfOk result (λ _. string_bytes text.new ≡ string_bytes text.old
-        ++ flat_map (spec.past_lines family all.now.rules.items all.now.ends.items) list.now ++ flat_map spec.crowded_line crowded.now) }
+        ++ flat_map (spec.past_lines GetsPast family all.now.rules.items all.now.ends.items) past.now
+        ++ flat_map (spec.past_lines IsStopped family all.now.rules.items all.now.ends.items) stopped.now
+        ++ flat_map spec.crowded_line crowded.now) }
 {
-    put_all(alloc, text, family, all, list)?;
+    put_all(alloc, text, Way::GetsPast, family, all, past)?;
+    put_all(alloc, text, Way::IsStopped, family, all, stopped)?;
     put_all_crowded(text, crowded)
 }
 
@@ -287,9 +302,9 @@ fn put_found(
 {
     match found {
         Finding::Nothing => text.push_str("nothing gets past\n"),
-        Finding::GetPast(list) => put_list(alloc, text, family, all, list),
-        Finding::Undecided(list, crowded) => {
-            put_undecided(alloc, text, family, all, list, crowded)
+        Finding::Unlike(past, stopped) => put_both(alloc, text, family, all, past, stopped),
+        Finding::Undecided(past, stopped, crowded) => {
+            put_undecided(alloc, text, family, all, past, stopped, crowded)
         }
     }
 }

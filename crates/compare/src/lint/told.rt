@@ -17,8 +17,8 @@ fn is_nothing(found: &Finding) -> bool
 {
     match found {
         Finding::Nothing => true,
-        Finding::GetPast(_) => false,
-        Finding::Undecided(_, _) => false,
+        Finding::Unlike(_, _) => false,
+        Finding::Undecided(_, _, _) => false,
     }
 }
 
@@ -37,7 +37,8 @@ fn judged(alloc: Global, document: &Document, bundle: &Bundle) -> Result<Told, A
     })
 }
 
-/// Reports which calls get past a bundle by bits that the kernel does not read. Also reports what else in it says less than it seems to.
+/// Reports which calls get past a bundle, and which are stopped by it, by bits that the kernel does not read. Also reports what else in it
+/// says less than it seems to.
 pub fn lint(alloc: Global, document: &Document) -> Result<Told, AllocError>
     ensures { IfOk result (spec.IsLinted document.now.native document.now.bytes) }
 {

@@ -1,7 +1,5 @@
 use Rattle.std.proofs.Common.{refl, sym, ◌∙◌}
-use Rattle.std.proofs.lemmas.Bool.{not-false}
 use Rattle.call_record.specs.Record.{words}
-use Rattle.differ.specs.Direction.{tells}
 use Rattle.unread_bits.proofs.past.past_by.Goals as goal
 
 pub returns-clause-past : goal.returns-clause-past

@@ -16,6 +16,6 @@ one_more {X} f xs i x old text new within is added told =
 
 pub loop-past-preserved : goal.loop-past-preserved
 loop-past-preserved c =
-    one_more (past_lines c.args.family c.args.all.now.rules.items c.args.all.now.ends.items) c.args.list.now c.loop-past.past-index c.past-item.result
+    one_more (past_lines c.args.way c.args.family c.args.all.now.rules.items c.args.all.now.ends.items) c.args.list.now c.loop-past.past-index c.past-item.result
     (string_bytes c.args.text.now) (string_bytes c.loop-past.text) (string_bytes c.put_past.new.text) c.loop-past-test.true c.past-item.is
     c.in_ok-put_past.ensures c.loop-past.invariant
