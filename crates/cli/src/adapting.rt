@@ -88,7 +88,7 @@ const PAST: &str =
 
 // The same, if a call is stopped by it.
 const STOPPED: &str =
-    "ccell: lint reports calls that this bundle stops by bits that Linux does not read; narrow behind the file heeds those alone that it reads\n";
+    "ccell: lint reports calls that this bundle stops by bits that Linux does not read; narrow behind the file ends that\n";
 
 // The lines of what `lint` has to report.
 fn push_hint(changes: &mut String, hint: Hinted) -> Result<(), AllocError> {
