@@ -153,7 +153,7 @@ class Trial:
         return self
 
     def wrong(self, fails):
-        """What is wrong with a test, if LIBRARY says so much of it, or nothing."""
+        """What is wrong with a test, if tests/README.md says so much of it, or nothing."""
         if fails == ALL:
             return "" if len(self.faults) == self.lines else f"only {len(self.faults)} of {self.lines} lines fail {self.faults[:1]}"
         if fails == OTHERS:
@@ -252,6 +252,6 @@ def run(folder, sources, keeps):
         print("libseccomp {}: {} tests, {} pass, {} but for other machines; {} lines, {} records, {} shown to ccell, {} to it alone"
               .format(*rows[-1]))
         seen |= set(trials)
-    tell(bool(sources) or set(fails) <= seen, f"docs/LIBRARY.md names tests that there are not: {sorted(set(fails) - seen)}")
+    tell(bool(sources) or set(fails) <= seen, f"tests/README.md names tests that there are not: {sorted(set(fails) - seen)}")
     if keeps:
         measured("own_tests", rows, True)
