@@ -1,6 +1,6 @@
 #!/usr/bin/env python3
-"""Writes the rules of a bundle as the text that `second` reads: rules.py MACHINE BUNDLE. Written from docs/PROFILES.md alone, whose tables
-of calls it reads. It expects a bundle that `ccell read` accepts: of the refusals it knows few."""
+"""Writes the rules of a bundle as the text that `second` reads: rules.py MACHINE BUNDLE. Written from docs/PROFILES.md alone; it reads
+the tables of calls beside that page. It expects a bundle that `ccell read` accepts: of the refusals it knows few."""
 import json, pathlib, re, sys
 
 DOCS = pathlib.Path(__file__).resolve().parent.parent / 'docs'
@@ -14,11 +14,9 @@ ORDER = ['x86-64', 'linux-x86-64', 'linux-x32', 'linux-x86', 'aarch64', 'linux-a
 
 def tables(native):
     """The machines of the family, and each name's number of each of them."""
-    if native.startswith('linux'):
-        calls = re.findall(r'^(\w+) (\S+)$', (DOCS / 'linux-calls.txt').read_text(), re.M)
-        return WHOLE, {name: dict(zip(WHOLE, numbers.split('/'))) for name, numbers in calls}
-    lists = (DOCS / 'PROFILES.md').read_text().split('**The chosen lists**')[1].split('```')[1]
-    return ['x86-64', 'aarch64'], {name: {'x86-64': x, 'aarch64': a} for name, x, a in re.findall(r'(\w+) (\S+)/([^\s,.]+)', lists)}
+    family, name_of = (WHOLE, 'linux-calls.txt') if native.startswith('linux') else (['x86-64', 'aarch64'], 'chosen-calls.txt')
+    calls = re.findall(r'^(\w+) (\S+)$', (DOCS / name_of).read_text(), re.M)
+    return family, {name: dict(zip(family, numbers.split('/'))) for name, numbers in calls}
 
 
 def verdict(action, data):

@@ -44,7 +44,7 @@ def of_five_machines(action):
 
 
 def refuted_by_turns():
-    """1,024 such entries, each with its fifth or its sixth condition met by no number below 1,000, in turn, and the other by one of them."""
+    """1,024 such entries. In turn no number below 1,000 meets its fifth or its sixth condition, and one of them meets the other."""
     dice, made = random.Random(7), of_five_machines("SCMP_ACT_ERRNO")
     for n, entry in enumerate(made["syscalls"]):
         for condition in entry["args"][4:]:
@@ -53,8 +53,8 @@ def refuted_by_turns():
 
 
 def made_up(room, literals, nodes, seccomp):
-    """Files of a made-up certificate of these literals, each with the number of the one before it, and nodes, beside a bundle and a filter
-    that returns KILL_THREAD."""
+    """Files of a made-up certificate of nodes and of these literals, each with the number of the one before it. Beside it stand a bundle
+    and a filter that returns KILL_THREAD."""
     written(room, "bundle", {"ociVersion": "1.0.2", "linux": {"seccomp": seccomp}})
     with open(f"{room}/filter.bpf", "wb") as file:
         file.write(struct.pack("<HBBI", RET, 0, 0, KILL_THREAD))

@@ -176,13 +176,13 @@ def number_of(machine, name):
 def faults_of_calls(page, text):
     """The lists of calls, and how many there are."""
     faults = []
-    for name, first, second in re.findall(r"\b([a-z][a-z0-9_]*) (\d+)/(\d+|-)", text):
+    counts = re.search(r"chosen lists\S*: (\d+) and (\d+) calls", text)
+    chosen = re.findall(r"^(\w+) (\d+)/(\d+|-)$", read("docs/chosen-calls.txt"), re.M) if counts else []
+    for name, first, second in chosen:
         if (number_of("x86-64", name), number_of("aarch64", name)) != (first, second):
             faults.append(f"{name} is not {first}/{second}")
-    chosen = re.findall(r"\b[a-z][a-z0-9_]* \d+/(\d+|-)", text)
-    counts = re.search(r"chosen lists: (\d+) and (\d+) calls", text)
-    if counts and counts.groups() != (str(len(chosen)), str(len(chosen) - chosen.count("-"))):
-        faults.append(f"its chosen lists have {len(chosen)} calls")
+    if counts and counts.groups() != (str(len(chosen)), str(sum(second != "-" for _, _, second in chosen))):
+        faults.append(f"the chosen lists have {len(chosen)} calls")
     for head, *rows in tables(text):
         if tuple(head) == WHOLE:
             faults += faults_of_whole_tables(tuple(rows[0]))

@@ -2,7 +2,7 @@
 
 The programs of its folder tests/ are linked with that library, and do what the lines of each file `*.tests` ask for, as libseccomp's own
 driver has them done. A filter is asked by libseccomp's simulator, tools/scmp_bpf_sim, and, on machines that ccell knows, by `ccell
-verdict`. Lines for valgrind are left out. docs/LIBRARY.md names the tests that do not pass: these must not, and all others have to."""
+verdict`. Lines for valgrind are left out. tests/README.md names the tests that do not pass: these must not, and all others have to."""
 import glob
 import itertools
 import os
@@ -21,7 +21,7 @@ from harness.tally import tell
 MIRROR, SUITES = "http://deb.debian.org/debian", ("bookworm", "trixie")
 TOOLS = ("scmp_bpf_sim", "scmp_sys_resolver", "scmp_arch_detect", "scmp_api_level")
 KNOWN = ("x86_64", "x86", "x32", "aarch64", "arm", "riscv64", "ppc64le", "loongarch64")
-# How a program ends that carries out a call with such an action, and what a line of LIBRARY's table says of a test.
+# How a program ends that carries out a call with such an action, and what a line of the table in tests/README.md says of a test.
 ENDS = {"KILL": 159, "KILL_PROCESS": 159, "ALLOW": 160, "TRAP": 161, "ERRNO": 163, "LOG": 164}
 ALL, OTHERS = "all", "other machines"
 COUNTS = ("lines", "records", "shown", "alone")
@@ -42,8 +42,8 @@ def fetched():
 
 
 def listed():
-    """What LIBRARY says of tests that do not pass: whether all of their lines fail, or some on other machines."""
-    with open(f"{TOP}/docs/LIBRARY.md", encoding="utf-8") as file:
+    """What tests/README.md says of tests that do not pass: whether all of their lines fail, or some on other machines."""
+    with open(f"{TOP}/tests/README.md", encoding="utf-8") as file:
         return {name: fails for names, fails, _ in ROW.findall(file.read()) for name in re.findall("`(.+?)`", names)}
 
 
@@ -153,7 +153,7 @@ class Trial:
         return self
 
     def wrong(self, fails):
-        """What is wrong with a test, if LIBRARY says so much of it, or nothing."""
+        """What is wrong with a test, if tests/README.md says so much of it, or nothing."""
         if fails == ALL:
             return "" if len(self.faults) == self.lines else f"only {len(self.faults)} of {self.lines} lines fail {self.faults[:1]}"
         if fails == OTHERS:
@@ -252,6 +252,6 @@ def run(folder, sources, keeps):
         print("libseccomp {}: {} tests, {} pass, {} but for other machines; {} lines, {} records, {} shown to ccell, {} to it alone"
               .format(*rows[-1]))
         seen |= set(trials)
-    tell(bool(sources) or set(fails) <= seen, f"docs/LIBRARY.md names tests that there are not: {sorted(set(fails) - seen)}")
+    tell(bool(sources) or set(fails) <= seen, f"tests/README.md names tests that there are not: {sorted(set(fails) - seen)}")
     if keeps:
         measured("own_tests", rows, True)

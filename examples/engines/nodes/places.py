@@ -1,7 +1,7 @@
 """Where engines keep their containers: as the processes that watch over containers say, and in the folders that engines have by default.
 
 A shim of containerd runs in the folder of a container, whatever the engine and the namespace are. conmon, of podman and CRI-O, has the
-folder, the file of the process and the name among its words, whatever storage, root or user they have. runc and crun keep a file of each
+folder, the file of the process and the name among its words. So it is with any storage, root or user. runc and crun keep a file of each
 container that they started."""
 import glob
 import json
