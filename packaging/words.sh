@@ -19,7 +19,11 @@ answer() {
     case $status.$looks in
     2.help) echo "$page" >&2 ;;
     2.words) tell_of_words "$program" "$page" "$@" >&2 ;;
-    1.files | 4.files) tell_of_files "$page" "$@" >&2 ;;
+    2.files) tell_of_word "$program" "$page" "$@" >&2 ;;
+    1.files | 4.files)
+        tell_of_files "$page" "$@" >&2
+        tell_of_number "$@" >&2
+        ;;
     esac
     exit "$status"
 }
@@ -156,6 +160,57 @@ tell_of_words() {
         echo 'ccell manual tells the commands.'
         ;;
     esac
+}
+
+# What is said on a terminal of words that ask for nothing, where the program's own line names none of them, or not the nearest.
+tell_of_word() {
+    local program=$1 name=$3 machine=${4-} before="" values word
+    values=$(values_of "$2" MACHINE)
+    if [ -n "$values" ] && ! grep -qxF -e "$machine" <<<"$values"; then
+        word=$(nearest "$machine" "$values")
+        [ -z "$word" ] || echo "ccell: the nearest MACHINE is $word"
+        return
+    fi
+    [ $# -ge 4 ] || return 0
+    shift 4
+    [ "$name.${1-}.$#" != learn.from.2 ] || echo "ccell: LOG is missing behind $(shown "$2")"
+    for word in "$@"; do
+        tell_of_value "$program" "$machine" "$name" "$before" "$word"
+        before=$word
+    done
+}
+
+# The same of one word behind another. The program itself tells of values that do not look like one.
+tell_of_value() {
+    local word near
+    word=$(shown "$5")
+    case $3.$4.$5 in
+    adapt.kernel.*.*) [[ $5 =~ ^[0-9]+\.[0-9]+$ ]] || echo "ccell: $word is nothing behind kernel: two numbers as 6.12" ;;
+    adapt.cap.CAP_*)
+        capabilities | grep -qxF -e "$5" && return
+        near=$(nearest "$5" "$(capabilities | tr 'A-Z_' 'a-z-')" | tr 'a-z-' 'A-Z_')
+        echo "ccell: $word is no capability${near:+; the nearest is $near}"
+        ;;
+    learn.keep.*:*)
+        near=$("$1" explain "$2" <(echo '{"defaultAction":"SCMP_ACT_ALLOW","syscalls":[]}') "${5%%:*}" 2>/dev/null | grep ' is no call of ')
+        [ -z "$near" ] || echo "ccell: $near"
+        ;;
+    *.-) echo 'ccell: standard input is /dev/stdin' ;;
+    *.-[0-9]*) [[ ! $5 =~ ^-[0-9]{1,18}$ ]] || printf 'ccell: as an argument of a call %s is 0x%x\n' "$word" "$5" ;;
+    esac
+}
+
+# What is said on a terminal of a number where `explain` wants a call.
+tell_of_number() {
+    if [ "${1-}" = explain ] && [[ ${2-} == linux-* && ${4-} =~ ^[0-9]+$ ]]; then echo "ccell: the call of this number is $2:$4"; fi
+}
+
+# capabilities(7), one in each line.
+capabilities() {
+    printf 'CAP_%s\n' CHOWN DAC_OVERRIDE DAC_READ_SEARCH FOWNER FSETID KILL SETGID SETUID SETPCAP LINUX_IMMUTABLE NET_BIND_SERVICE NET_BROADCAST \
+        NET_ADMIN NET_RAW IPC_LOCK IPC_OWNER SYS_MODULE SYS_RAWIO SYS_CHROOT SYS_PTRACE SYS_PACCT SYS_ADMIN SYS_BOOT SYS_NICE SYS_RESOURCE \
+        SYS_TIME SYS_TTY_CONFIG MKNOD LEASE AUDIT_WRITE AUDIT_CONTROL SETFCAP MAC_OVERRIDE MAC_ADMIN SYSLOG WAKE_ALARM BLOCK_SUSPEND AUDIT_READ \
+        PERFMON BPF CHECKPOINT_RESTORE
 }
 
 # What is said of files behind a refusal or a no: of each that looks like something else than its place wants.

@@ -76,10 +76,13 @@ class Bench:
         if not answered:
             raise RuntimeError("it does not answer under strace")
         shutil.move(f"{self.data}/log", path)
+        self.ran(["cp", "-a", self.data, f"{self.folder}/ended"])
         return path
 
     def first_wrong(self, name, init, log):
-        """Why the server does not answer below a process 1, under what was learned: nothing if it does."""
+        """Why the server does not answer below a process 1, under what was learned: nothing if it does. It begins as it ended below strace:
+        after a kill it does more, which no log shows."""
+        self.ran(["sh", "-c", "find . -mindepth 1 -delete && cp -a ../ended/. ."])
         with open(f"{self.folder}/section.json", "w", encoding="utf-8") as file:
             file.write(self.ran([os.path.abspath(CCELL), "learn", "linux-x86-64", log, "for", "podman"]))
         command = [self.engine.command, "run", "-d", "--name", name, "--init", "--init-path", init, "--user", self.server.user,

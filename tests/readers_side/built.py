@@ -13,14 +13,30 @@ HERE = f"{TOP}/tests/readers_side"
 GO = ("golang-1.19-go", "golang-1.19-src")
 LIBRARIES = ("libseccomp2", "libseccomp-dev", "libyajl2", "libyajl-dev")
 # What the engines' own packages are, and which others they are compiled with. Those of the older suite serve both.
-OWN = tuple(f"golang-github-{name}-dev" for name in ("docker-docker", "containers-common", "opencontainers-runc", "opencontainers-specs",
-                                                      "seccomp-libseccomp-golang"))
+OWN = tuple(f"golang-github-{name}-dev" for name in ("docker-docker", "containers-common", "containerd-containerd", "opencontainers-runc",
+                                                      "opencontainers-specs", "seccomp-libseccomp-golang"))
 OTHERS = ("golang-golang-x-sys-dev", "golang-golang-x-net-dev", "golang-github-sirupsen-logrus-dev", "golang-dbus-dev",
           "golang-github-coreos-go-systemd-dev", "golang-github-cyphar-filepath-securejoin-dev", "golang-github-moby-sys-dev")
 OLD, NEW = "bookworm", "trixie"
 # The suites by the numbers of their systems, and the engines of a bundle and of a section by itself.
 SYSTEMS = {OLD: "12", NEW: "13"}
 OF_BUNDLES, OF_SECTIONS = ("runc", "crun"), ("docker", "podman", "containerd")
+# What containerd's package of seccomp takes of its others, which want hundreds of packages: types that it hands on.
+STUBS = {
+    "containers": "package containers\n\ntype Container struct{}\n",
+    "oci": """package oci
+
+import (
+	"context"
+
+	"github.com/containerd/containerd/containers"
+	"github.com/opencontainers/runtime-spec/specs-go"
+)
+
+type Client interface{}
+type SpecOpts func(context.Context, Client, *containers.Container, *specs.Spec) error
+""",
+}
 # Sources of crun's parser that read other things.
 UNREAD = ("validate", "basic_test", "image_")
 
@@ -66,6 +82,11 @@ def compiled_go(room, suite, roots, folder):
     """The program of the engines of Go, of a suite's packages."""
     os.makedirs(f"{room}/src/readers", exist_ok=True)
     shutil.copy(f"{HERE}/readers.go", f"{room}/src/readers/readers.go")
+    for name, text in STUBS.items():
+        stub = f"{room}/src/github.com/containerd/containerd/{name}"
+        os.makedirs(stub, exist_ok=True)
+        with open(f"{stub}/stub.go", "w", encoding="utf-8") as file:
+            file.write(text)
     paths = [f"{roots[name]}/usr/share/gocode" for name in dict.fromkeys((suite, OLD))]
     settings = {"GOROOT": f"{roots[OLD]}/usr/lib/go-1.19", "GO111MODULE": "off", "GOCACHE": f"{folder}/go", "GOFLAGS": "", "CGO_ENABLED": "1",
                 "GOPATH": ":".join([room, *paths]), "PKG_CONFIG": pkg_config(room, roots[OLD])}

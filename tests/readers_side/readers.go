@@ -7,12 +7,14 @@ package main
 import (
 	"bufio"
 	"bytes"
+	"context"
 	"encoding/hex"
 	"encoding/json"
 	"errors"
 	"fmt"
 	"os"
 
+	containerd "github.com/containerd/containerd/contrib/seccomp"
 	common "github.com/containers/common/pkg/seccomp"
 	docker "github.com/docker/docker/profiles/seccomp"
 	"github.com/opencontainers/runc/libcontainer/configs"
@@ -54,6 +56,22 @@ func ofBundle(text []byte) (*specs.LinuxSeccomp, error) {
 	return bundle.Linux.Seccomp, nil
 }
 
+// containerd reads a file.
+func ofFile(text []byte) (*specs.LinuxSeccomp, error) {
+	file, err := os.CreateTemp("", "profile")
+	if err != nil {
+		return nil, err
+	}
+	defer os.Remove(file.Name())
+	defer file.Close()
+	if _, err := file.Write(text); err != nil {
+		return nil, err
+	}
+	spec := container(capabilities)
+	err = containerd.WithProfile(file.Name())(context.Background(), nil, nil, spec)
+	return spec.Linux.Seccomp, err
+}
+
 // The section that an engine reads; a reader that fails by a nil pointer reads none.
 func section(engine string, text []byte) (read *specs.LinuxSeccomp, err error) {
 	defer func() {
@@ -70,9 +88,8 @@ func section(engine string, text []byte) (read *specs.LinuxSeccomp, err error) {
 		return docker.LoadProfile(got, container(ofDocker))
 	case "podman":
 		return common.LoadProfile(string(text), container(capabilities))
-	case "containerd": // contrib/seccomp, WithProfile
-		read := &specs.LinuxSeccomp{}
-		return read, json.Unmarshal(text, read)
+	case "containerd":
+		return ofFile(text)
 	case "runc": // utils_linux.go and spec.go, loadSpec
 		return ofBundle(text)
 	}
