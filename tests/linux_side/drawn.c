@@ -156,9 +156,11 @@ void draw_program(void)
 			draw_of(scratch, COUNT_OF(scratch), &program[i], left);
 		if (is_followed && below(10))
 			draw_of(followed, COUNT_OF(followed), &program[i], left);
-		/* A long program that reads scratch words at random would hardly be accepted. */
+		/* A long program that reads scratch words at random, or shifts by more than 31, would hardly be accepted. */
 		if (length > 40 && (program[i].code == READ || program[i].code == READ_X))
 			program[i].code -= READ;
+		if (length > 600 && (program[i].code == SHIFT_LEFT || program[i].code == SHIFT_RIGHT))
+			program[i].k &= 31;
 	}
 	if (length && below(60))
 		draw_end(&program[length - 1]);
@@ -174,6 +176,8 @@ void draw_record(struct seccomp_data *record)
 	int i, kind = below(6);
 
 	record->nr = kind == 0 ? number() : kind == 1 ? 0x40000000 | below(600) : below(600);
+	if (kind == 2 && length)
+		record->nr = program[below(length)].k;
 	record->arch = below(10) ? PICK(machines) : any_number();
 	record->instruction_pointer = below(3) ? any_number() : 0;
 	for (i = 0; i < 6; i++)
