@@ -4,7 +4,7 @@
 #include <string.h>
 
 enum { LOAD = 0x20, LOAD_K = 0x00, AND_K = 0x54, STORE = 0x02, STORE_X = 0x03, READ = 0x60, READ_X = 0x61, JUMP = 0x05, RETURN = 0x06,
-       RETURN_A = 0x16, DIVIDE_K = 0x34, SHIFT_LEFT = 0x64, SHIFT_RIGHT = 0x74 };
+       RETURN_A = 0x16, DIVIDE_K = 0x34, SHIFT_LEFT = 0x64, SHIFT_RIGHT = 0x74, ALLOW = 0x7fff0000 };
 
 struct sock_filter program[MOST];
 int length;
@@ -103,6 +103,8 @@ static void draw_of(const __u16 *codes, int many, struct sock_filter *insn, int 
 	insn->k = fitting_number(insn->code, least(left, 4));
 	if (insn->code == LOAD)
 		insn->k = 4 * below(2);
+	if (insn->code == RETURN && below(2))
+		insn->k = ALLOW;
 }
 
 static void damage(struct sock_filter *insn, int left)
@@ -156,12 +158,16 @@ void draw_program(void)
 			draw_of(scratch, COUNT_OF(scratch), &program[i], left);
 		if (is_followed && below(10))
 			draw_of(followed, COUNT_OF(followed), &program[i], left);
-		/* A long program that reads scratch words at random would hardly be accepted. */
+		/* A long program that reads scratch words at random, or shifts by more than 31, would hardly be accepted. */
 		if (length > 40 && (program[i].code == READ || program[i].code == READ_X))
 			program[i].code -= READ;
+		if (length > 600 && (program[i].code == SHIFT_LEFT || program[i].code == SHIFT_RIGHT))
+			program[i].k &= 31;
 	}
 	if (length && below(60))
 		draw_end(&program[length - 1]);
+	if (is_followed && length > 1 && below(4))
+		program[0] = (struct sock_filter){ LOAD, 0, 0, 0 };
 	many = below(40) ? below(2) * below(3) : 1 + below(8);
 	for (i = 0; i < many && length; i++) {
 		left = below(length);
@@ -169,11 +175,23 @@ void draw_program(void)
 	}
 }
 
+/* A number with which the program compares, if it does so behind some place. */
+static __u32 compared_number(void)
+{
+	int first = below(length), at = first;
+
+	while (at < length && !is_conditional(program[at].code))
+		at++;
+	return program[at < length ? at : first].k;
+}
+
 void draw_record(struct seccomp_data *record)
 {
 	int i, kind = below(6);
 
 	record->nr = kind == 0 ? number() : kind == 1 ? 0x40000000 | below(600) : below(600);
+	if (kind > 3 && length)
+		record->nr = compared_number();
 	record->arch = below(10) ? PICK(machines) : any_number();
 	record->instruction_pointer = below(3) ? any_number() : 0;
 	for (i = 0; i < 6; i++)

@@ -37,6 +37,8 @@ static void set_up(void)
 	}
 }
 
+enum kind { SHORT, LONG, FULL };
+
 static void draw_flags(struct event *event, int is_long)
 {
 	static const __u32 flags[] = { 0, 0, 1, 1, 8, 8, 16, 17, 24, 25, 25, 9, 2, 4, 32, 64, 0x80000000 };
@@ -51,13 +53,13 @@ static void draw_flags(struct event *event, int is_long)
 	}
 }
 
-/* A filter that asks for one call, and allows all others. A long one has instructions behind that do nothing, which Linux translates to one
- * or to three each. */
-static void draw_filter(struct event *event, int is_long)
+/* A filter that allows all calls, or all but one. A long one has so many instructions more that do nothing, which Linux translates to one or to
+ * three each. */
+static void write_filter(struct event *event, int is_long, int more, int is_jump)
 {
 	static const __u32 answers[] = { 0x50001, 0x7fc00000, 0x7fc00000, 0x7ff00001, 0x7ffc0000, 0x7fff0000, 0x7fff0000, 0x51000, 0x50002, 0x7fc00005,
 					 0, 0x80000000, 0x30007, 0x123 };
-	int more = is_long ? below(6) ? 2000 + below(2000) : below(200) : 0, is_jump = !below(3), many = 0;
+	int many = 0;
 
 	if (below(4)) {
 		event->insns[many++] = (struct sock_filter){ 0x20, 0, 0, 0 };
@@ -70,15 +72,72 @@ static void draw_filter(struct event *event, int is_long)
 		event->insns[many++] = (struct sock_filter){ 0x00, 0, 0, 1 };
 	event->insns[many++] = (struct sock_filter){ 0x06, 0, 0, 0x7fff0000 };
 	event->count = many;
+}
+
+static void draw_filter(struct event *event, int is_long)
+{
+	int more = is_long ? below(6) ? 2000 + below(2000) : below(200) : 0;
+
+	write_filter(event, is_long, more, !below(3));
 	if (!below(25))
 		event->insns[0].code = 0xffff;
 	else
 		event->is_missing = !below(25);
 }
 
-static void draw_event(struct event *event, int made, int is_long)
+/* Loads that fill a task's filters up to the limit: how many instructions are left, of the filters or as Linux translates them, and how many
+ * loads there were. The last load comes within 4 a filter of the limit: Linux counts so many more. */
+static struct filling { int is_classic, left, loads; } filling;
+
+/* The container's own filter, which has not been read yet while questions are written, has about so many instructions. */
+enum { OWN = 10, NEARLY_FULL = 3900 };
+
+static void begin_filling(void)
 {
-	int kind = below(10);
+	filling = (struct filling){ below(2), LONGEST - OWN - 4, 1 };
+}
+
+static int counted_length(const struct event *event)
+{
+	return filling.is_classic ? event->count : translated_length(event->insns, event->count);
+}
+
+static void draw_last_filter(struct event *event)
+{
+	int near = below(2) ? OWN : 4 * filling.loads + OWN, aim = filling.left - near + below(2 * near + 1);
+	const struct sock_filter nothing = { 0x00, 0, 0, 1 };
+
+	write_filter(event, 1, 0, 0);
+	for (aim -= counted_length(event); aim > 0; aim--) {
+		event->insns[event->count] = event->insns[event->count - 1];
+		event->insns[event->count++ - 1] = nothing;
+	}
+	filling.left = 0;
+}
+
+static void draw_filling(struct event *event, int made)
+{
+	int is_jump = !filling.is_classic && filling.left > 4 * NEARLY_FULL && !below(3);
+
+	event->record.nr = below(4) ? SECCOMP : PRCTL;
+	event->record.args[0] = event->record.nr == PRCTL ? 22 : 1;
+	event->record.args[1] = event->record.nr == PRCTL ? 2 : below(2);
+	event->task = made;
+	if (filling.left >= NEARLY_FULL) {
+		write_filter(event, 1, 1000 + below(NEARLY_FULL - 1500), is_jump);
+		filling.left -= counted_length(event) + 4;
+		filling.loads++;
+	} else if (made == 1 && below(2)) {
+		event->record.nr = CLONE;
+		event->record.args[0] = below(2) ? CLONE_AS_THREAD : 0;
+	} else {
+		draw_last_filter(event);
+	}
+}
+
+static void draw_event(struct event *event, int made, enum kind script)
+{
+	int kind = below(10), is_long = script == LONG;
 
 	event->task = 1 + below(made < 6 ? made : 6);
 	event->record = (struct seccomp_data){ .nr = below(2) ? GETPID : GETUID, .arch = MACHINE };
@@ -87,7 +146,9 @@ static void draw_event(struct event *event, int made, int is_long)
 		event->task = 1;
 		kind = below(5) ? 3 : 9;
 	}
-	if (kind < 2 && made < MOST_MADE) {
+	if (script == FULL && filling.left) {
+		draw_filling(event, made);
+	} else if (kind < 2 && made < MOST_MADE) {
 		event->record.nr = CLONE;
 		event->record.args[0] = below(4) ? CLONE_AS_THREAD : 0;
 	} else if (kind < 6) {
@@ -145,6 +206,8 @@ static int judge(const struct event *event, const struct outcome *outcome)
 		differ("two ways to keep filters", "%s, %s", answer[0], answer[1]);
 	if (outcome->translated && (is_too_long || loads) && is_too_long != (outcome->translated > LONGEST))
 		differ("the limit", "%s with %ld translated instructions", outcome->said, outcome->translated);
+	if (outcome->classic && outcome->classic <= LONGEST && !strcmp(answer[0], "Failed(12)"))
+		differ("the pages' limit", "ccell refuses %ld instructions", outcome->classic);
 	if (!strcmp(outcome->said, answer[0]) || (is_descriptor && !strncmp(answer[0], "Done(", 5) && strcmp(answer[0], "Done(0)"))) {
 		if (outcome->was_closed)
 			count("scripts that end where a listener is closed (on the page)");
@@ -159,12 +222,13 @@ static int judge(const struct event *event, const struct outcome *outcome)
 	return 0;
 }
 
-static void try_script(int is_long)
+static void try_script(enum kind script)
 {
 	static struct event event;
 	struct outcome outcome;
-	int made = 1, events = is_long ? MOST_EVENTS : 4 + below(14), goes_on = 1, i;
+	int made = 1, events = script == SHORT ? 4 + below(14) : MOST_EVENTS, goes_on = 1, i;
 
+	begin_filling();
 	if (asks) {
 		puts("kernel admit c 0");
 	} else {
@@ -174,7 +238,7 @@ static void try_script(int is_long)
 			abort();
 	}
 	for (i = 0; i < events; i++) {
-		draw_event(&event, made, is_long);
+		draw_event(&event, made, script);
 		made += event.record.nr == CLONE;
 		if (asks) {
 			ask(&event);
@@ -196,7 +260,7 @@ void try_scripts(long cases)
 	for (i = 0; i < cases; i++) {
 		begin_case(i);
 		count("scripts");
-		try_script(0);
+		try_script(SHORT);
 	}
 }
 
@@ -209,6 +273,6 @@ void try_limits(long cases)
 	for (i = 0; i < cases; i++) {
 		begin_case(i);
 		count("scripts up to the limit");
-		try_script(1);
+		try_script(below(2) ? LONG : FULL);
 	}
 }
