@@ -250,7 +250,8 @@ static void load_by_event(const struct event *event, struct outcome *outcome)
 	const __u64 *args = event->record.args;
 	long got = -EINVAL;
 
-	count_instructions(event, outcome);
+	if (event->record.nr == SECCOMP ? args[0] == SECCOMP_SET_MODE_FILTER : args[1] == SECCOMP_MODE_FILTER)
+		count_instructions(event, outcome);
 	if (event->record.nr == SECCOMP)
 		got = sys_seccomp(args[0], args[1], (void *)given);
 	else if (args[0] == 22)
