@@ -303,7 +303,7 @@ fn read_trimmed(alloc: Global, document: &Document) -> Result<Told, AllocError> 
     }
 }
 
-// The same of a bundle whose edition is refused: it was not done, whatever is told.
+// Tells what a bundle with a refused edition would mean. It was not done, whatever is told.
 fn read_as_first(alloc: Global, document: &Document) -> Result<Told, AllocError>
     ensures { IfOk result (λ told. told.done ≡ false) }
 {
