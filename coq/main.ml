@@ -2,7 +2,7 @@
      coq-check check PROFILE FILTER CERTIFICATE    the line of `ccell check`, with its status; 3 for what is no profile
      coq-check verdict FILTER RECORD               the line of `ccell verdict`
      coq-check decide PROFILE RECORD               the verdict of the profile
-   PROFILE is what `ccell read MACHINE BUNDLE rules` prints. *)
+   PROFILE is what `ccell read MACHINE FILE rules` prints. *)
 open Checker
 
 let rec positive i = if i = 1 then XH

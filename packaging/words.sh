@@ -222,7 +222,7 @@ tell_of_files() {
         part=${parts[0]-}
         part=${part//[<>.[\]]/}
         case $part in
-        BUNDLE | OLD | NEW | CONFIG | PROFILE) wanted=JSON ;;
+        PROFILE | OLD | NEW | CONFIG) wanted=JSON ;;
         FILTER | CERTIFICATE | RECORD) wanted=$part ;;
         *) wanted= ;;
         esac

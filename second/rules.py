@@ -1,5 +1,5 @@
 #!/usr/bin/env python3
-"""Writes the rules of a bundle as the text that `second` reads: rules.py MACHINE BUNDLE. Written from docs/PROFILES.md alone; it reads
+"""Writes the rules of a bundle as the text that `second` reads: rules.py MACHINE FILE. Written from docs/PROFILES.md alone; it reads
 the tables of calls beside that page. It expects a bundle that `ccell read` accepts: of the refusals it knows few."""
 import json, pathlib, re, sys
 
@@ -51,7 +51,7 @@ def text_of(native, bundle):
 
 if __name__ == '__main__':
     if len(sys.argv) != 3 or sys.argv[1] not in ORDER:
-        sys.exit(f'usage: rules.py MACHINE BUNDLE, where MACHINE is one of: {" ".join(ORDER)}')
+        sys.exit(f'usage: rules.py MACHINE FILE, where MACHINE is one of: {" ".join(ORDER)}')
     try:
         sys.stdout.write(text_of(sys.argv[1], json.loads(pathlib.Path(sys.argv[2]).read_bytes())))
     except (OSError, ValueError) as fault:

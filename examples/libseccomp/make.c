@@ -1,4 +1,4 @@
-/* Writes the filter that libseccomp makes of a bundle, for the native machine alone: ./make BUNDLE > FILTER
+/* Writes the filter that libseccomp makes of a bundle, for the native machine alone: ./make PROFILE > FILTER
  * gcc -Wall -o make make.c -lseccomp -ljson-c       (Debian: gcc, libseccomp-dev, libjson-c-dev)
  * It reads `syscalls` as runc 1.1.5 does: a rule for each entry and name, with all `args` of the entry; where an entry names
  * an argument twice, a rule for each of its `args`. Names that libseccomp does not know are passed over. */
@@ -44,7 +44,7 @@ static void add(scmp_filter_ctx filter, uint32_t verdict, int call, json_object 
 
 int main(int argc, char **argv) {
     json_object *section = argc == 2 ? GET(GET(json_object_from_file(argv[1]), "linux"), "seccomp") : NULL;
-    if (!section) errx(2, "usage: make BUNDLE, a file with a section linux.seccomp");
+    if (!section) errx(2, "usage: make PROFILE, a file with a section linux.seccomp");
     uint32_t rest = action(section, "defaultAction", "defaultErrnoRet");
     scmp_filter_ctx filter = seccomp_init(rest);
     json_object *entries = GET(section, "syscalls");

@@ -36,7 +36,7 @@ def seconds(shelf, arguments, lines, last):
 
 
 def pace(shelf, line):
-    """Of `MACHINE BUNDLE FILTER,.. CALL ..`: whether the call runs the filters of a task that has loaded these, or not."""
+    """Of `MACHINE PROFILE FILTER,.. CALL ..`: whether the call runs the filters of a task that has loaded these, or not."""
     native, bundle, filters, call = split_in(line, 4)
     loads = [f"call c 1 seccomp 1 0 0 prog {shelf.bytes_of(name).hex()}" for name in filters.split(",")]
     begin = ["create c b1", "start c", *loads]

@@ -57,7 +57,7 @@ class Program:
         last.tell(f"status {ran.returncode}")
 
     def own(self, row, line):
-        """Has it export the filter and the certificate of `MACHINE BUNDLE`, and check the two."""
+        """Has it export the filter and the certificate of `MACHINE PROFILE`, and check the two."""
         native, bundle = line.split()
         for form in ("raw", "cert"):
             ran = self.run(["export", native, bundle, form])
@@ -66,7 +66,7 @@ class Program:
         self.session(row, ["check", native, bundle, "raw", "cert"], [])
 
     def certify(self, row, line):
-        """Asks for the evidence on `MACHINE BUNDLE FILTER`, and tells of a certificate what the check says of it. Of a record
+        """Asks for the evidence on `MACHINE PROFILE FILTER`, and tells of a certificate what the check says of it. Of a record
         alone something has to stand on standard error."""
         ran = self.run(["certify", *line.split()])
         if bool(ran.stderr) != ran.stdout.startswith(b"no record"):
@@ -86,14 +86,14 @@ class Program:
         row.tell(f"status {ran.returncode}")
 
     def exported(self, row, line):
-        """Has it export the filter of `MACHINE BUNDLE as EXPECTED`, and tells whether the bytes are those of the last file."""
+        """Has it export the filter of `MACHINE PROFILE as EXPECTED`, and tells whether the bytes are those of the last file."""
         native, bundle, _, expected = line.split()
         ran = self.run(["export", native, bundle, "raw"])
         row.tell("the same filter" if ran.stdout == self.shelf.bytes_of(expected) else f"another filter: {ran.stdout.hex()}")
         row.tell(f"status {ran.returncode}")
 
     def behind(self, row, line):
-        """Asks for the evidence on `MACHINE BUNDLE FILTER` behind runc's stub. Tells what stands on standard error, and of a certificate
+        """Asks for the evidence on `MACHINE PROFILE FILTER` behind runc's stub. Tells what stands on standard error, and of a certificate
         what the check says of it and of the filter without its stub, whose size is told, or else of the whole."""
         native, bundle, filtered = line.split()
         ran = self.run(["certify", native, bundle, filtered, "runc"])

@@ -3,8 +3,8 @@ ghost use Rattle.std.specs.Prelude.{◌≡◌, map};
 ghost use Rattle.command_line.specs.Table.{words_of};
 
 use crate::said::{
-    ARGUMENT, ASKED_CALL, BUNDLE, BUNDLES, CALL, CERTIFICATE, CERTIFIED, CERTIFIED_TOO, COMMAND,
-    COMPARED, CONFIG, FILTER, FILTERS, FORM, JUDGE, LEARNED_LOG, LISTING, MACHINE, NEW, OLD,
+    ARGUMENT, ASKED_CALL, CALL, CERTIFICATE, CERTIFIED, CERTIFIED_TOO, COMMAND, COMPARED, CONFIG,
+    FILTER, FILTERS, FORM, JUDGE, LEARNED_LOG, LISTING, MACHINE, NEW, OLD, PROFILE, PROFILES,
     READ_AS, RECORD, RECOVERED, RECOVERED_TOO, REPLAYED_LOG, REVIEWED, REVIEWED_BOTH, SHOWN_AS,
     WORD,
 };
@@ -13,8 +13,8 @@ use crate::said::{
 #[derive(Clone, Copy)]
 pub enum Meaning {
     Machine,
-    Bundle,
-    Bundles,
+    Profile,
+    Profiles,
     Old,
     New,
     Compared,
@@ -48,8 +48,8 @@ impl Meaning {
     pub(crate) fn text(self) -> &'static str {
         match self {
             Meaning::Machine => MACHINE,
-            Meaning::Bundle => BUNDLE,
-            Meaning::Bundles => BUNDLES,
+            Meaning::Profile => PROFILE,
+            Meaning::Profiles => PROFILES,
             Meaning::Old => OLD,
             Meaning::New => NEW,
             Meaning::Compared => COMPARED,

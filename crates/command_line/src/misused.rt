@@ -287,7 +287,7 @@ fn put_nothing(text: &mut String, entry: &Entry, words: &[&str]) -> Result<(), A
     match (entry.4, words) {
         (Command::Manual, [word, ..]) => write!(text, "{word} is no COMMAND"),
         (Command::Review, [_, _, word]) => write!(text, "html is missing behind {word}"),
-        (Command::Join | Command::Meet, [_, _]) => text.push_str("a second BUNDLE is missing"),
+        (Command::Join | Command::Meet, [_, _]) => text.push_str("a second PROFILE is missing"),
         _ => text.push_str("these words ask for nothing"),
     }
 }

@@ -40,21 +40,21 @@ Example: ccell verdict web.bpf write.rec
 ";
 
 const CHECK: &str =
-    "Answers yes if the certificate shows that the filter gives each call record the bundle's verdict.
+    "Answers yes if the certificate shows that the filter gives each call record the profile's verdict.
 Status 0, or 1 and a line that begins with 'no' or 'refused'.
 
 Example: ccell check x86-64 web.json web.bpf web.cert
 ";
 
 const CERTIFY: &str =
-    "Writes a certificate that the filter answers what the bundle says, or a counterexample: a call
+    "Writes a certificate that the filter answers what the profile says, or a counterexample: a call
 record that the filter gets wrong. Standard error explains it.
 With runc, the stub that runc puts in front of a filter is judged by itself: standard error lists
-the calls that it answers ENOSYS. If the bundle refuses them by its default, without a kill, and names none
+the calls that it answers ENOSYS. If the profile refuses them by its default, without a kill, and names none
 of them, the certificate is of the filter behind the stub. Otherwise the whole filter is judged.
 With all, a filter without a certificate gets a record of each call that is found on which it differs;
 with both, also a filter behind the stub.
-With calls, numbers that no table has are left aside if bundle and filter differ on them; with
+With calls, numbers that no table has are left aside if profile and filter differ on them; with
 without-x32, all calls of x32 are. Where others are right the answer is yes, and these are listed.
 Status 0, or 1 and a line that begins with 'no' or 'refused'.
 
@@ -62,7 +62,7 @@ Example: ccell certify linux-x86-64 web.json web.bpf > web.cert
 ";
 
 const EXPORT: &str =
-    "Compiles a bundle, and writes its filter if the checker answers yes: raw is eight bytes an
+    "Compiles a profile, and writes its filter if the checker answers yes: raw is eight bytes an
 instruction, listing the text, and cert the certificate.
 Status 0, or 1 and a line that begins with 'no' or 'refused'.
 
@@ -70,18 +70,18 @@ Example: ccell export linux-x86-64 web.json raw > web.bpf
 ";
 
 const RUN: &str =
-    "Reads commands from standard input, a line each, and answers each with a line. The bundles are
+    "Reads commands from standard input, a line each, and answers each with a line. The profiles are
 called b1, b2 and so on.
-Status 0, or 1 if a bundle has no checked filter.
+Status 0, or 1 if a profile has no checked filter.
 
 Example: ccell run x86-64 web.json < life.script
 ";
 
 const EXPLAIN: &str =
-    "Reports the call in plain sentences, the bundle's verdict, and why: the entry that
+    "Reports the call in plain sentences, the profile's verdict, and why: the entry that
 matches, default or foreign. Under it each entry for that call, whether it matches, and which of its
 conditions hold.
-CALL any: what the bundle says of the call whatever its arguments.
+CALL any: what the profile says of the call whatever its arguments.
 record HEX: the call of the 128 digits that certify reports.
 audit: the lines that a kernel logs of filters (type=1326), read from standard input.
 Status 0, or 4 and a line that begins with 'refused'. With linux-.. a second line says which word
@@ -91,8 +91,8 @@ Example: ccell explain x86-64 web.json write 1 0 0x100000000
 ";
 
 const READ: &str =
-    "Reports a bundle's machines, the verdict of calls that no entry matches, and each entry in a line. Of
-a bundle that is refused it reports why and, in a second line, the place.
+    "Reports a profile's machines, the verdict of calls that no entry matches, and each entry in a line. Of
+a profile that is refused it reports why and, in a second line, the place.
 With rules, it writes the profile as a program reads it: the machines, the default verdict, and a
 line for each rule, with numbers in place of names.
 Status 0, 1 for an edition that is not read, or 4 and a line that begins with 'refused'.
@@ -101,13 +101,13 @@ Example: ccell read linux-x86-64 web.json
 ";
 
 const LINT: &str =
-    "Reports each call that the bundle lets through, and refuses if the bits that the kernel does not
-read are 0: it gets past. Then each call that the bundle refuses, and lets through if these bits are
+    "Reports each call that the profile lets through, and refuses if the bits that the kernel does not
+read are 0: it gets past. Then each call that the profile refuses, and lets through if these bits are
 0: it is stopped. Each has its entry, both values, and the records. A call that is left to a tracer
 or a listener goes further than a refused one, and less far than one that is let through. None is
 left out; one with too many answers may be undecided, and is named. Remarks follow, on conditions
 that mean little, on refused calls that report success, and on members that are not read.
-Status 0 if no call gets past or is stopped and each member is read, 4 if the bundle is refused, or 1.
+Status 0 if no call gets past or is stopped and each member is read, 4 if the profile is refused, or 1.
 
 Example: ccell lint linux-x86-64 web.json
 ";
@@ -116,7 +116,7 @@ const COMPARE: &str =
     "Reports all calls that the two answer unlike, a line for each and each direction, and last what is
 proved: same, allows no more, allows no less, or allows more and less. A call that can be answered
 in more than 4,194,304 ways may be undecided, and is named.
-Status 0 for same, 4 if a bundle is refused, or 1. With atmost, status 0 if the new bundle allows no more,
+Status 0 for same, 4 if a profile is refused, or 1. With atmost, status 0 if the new profile allows no more,
 and has the same flags and listener.
 filters: OLD and NEW are filters. A line stands for each call that is found of which they answer
 unlike verdicts. Status 0 if their bytes are the same, or 1.
@@ -148,16 +148,16 @@ for crun|runc|bwrap|docker|podman: add the calls that a runtime makes behind the
 else errno|enosys|log|kill: the answer to all other calls.
 @basic-io and the like, groups of calls as systemd has them: allow their calls, too.
 bundle, as the last word: write a bundle, a config.json with the section in it.
-With from and a bundle in front of the logs it adds to what this bundle allows.
+With from and a profile in front of the logs it adds to what this profile allows.
 Status 0, 1 if no section says both, or 4 and a line that begins with 'refused'.
 
 Example: ccell learn linux-x86-64 web.log for crun > web.json
 ";
 
 const REPLAY: &str =
-    "Reports each call of logs that the bundle refuses, or leaves to a tracer or a listener: why, how often,
+    "Reports each call of logs that the profile refuses, or leaves to a tracer or a listener: why, how often,
 and where first. With unused behind the logs, it reports each entry that no call of the logs matches.
-Status 0 if each call is let through, 4 if the bundle is refused, or 1.
+Status 0 if each call is let through, 4 if the profile is refused, or 1.
 
 Example: ccell replay linux-x86-64 web.json web.log unused
 ";
@@ -206,19 +206,19 @@ Example: ccell recover linux-x86-64 container.bpf runc without-x32 > container.j
 ";
 
 const JOIN: &str =
-    "Writes the section of a profile that gives each call the laxest of the answers that the bundles give
+    "Writes the section of a profile that gives each call the laxest of the answers that the profiles give
 it: what one of them allows is allowed. With bundle as the last word it writes the config.json of runc
 and crun.
-Status 0, 1 if no section says so, with a call that shows why, or 4 if a bundle is refused.
+Status 0, 1 if no section says so, with a call that shows why, or 4 if a profile is refused.
 
 Example: ccell join linux-x86-64 monday.json tuesday.json > both.json
 ";
 
 const MEET: &str =
-    "Writes the section of a profile that gives each call the strictest of the answers that the bundles
-give it: only what all of them allow is allowed. Of equally strict answers the last bundle's counts. With
+    "Writes the section of a profile that gives each call the strictest of the answers that the profiles
+give it: only what all of them allow is allowed. Of equally strict answers the last profile's counts. With
 bundle as the last word it writes the config.json of runc and crun.
-Status 0, 1 if no section says so, with a call that shows why, or 4 if a bundle is refused.
+Status 0, 1 if no section says so, with a call that shows why, or 4 if a profile is refused.
 
 Example: ccell meet linux-x86-64 docker.json own.json > strict.json
 ";
@@ -242,11 +242,11 @@ Example: ccell flatten linux-x86-64 1234.0.bpf 1234.1.bpf > process.bpf
 ";
 
 const REVIEW: &str =
-    "Reports what a bundle leaves open of the calls by which a kernel is attacked most, group by group.
-Of each call it is decided for all arguments whether the bundle lets it through. With html it writes a page
-for a browser, with the graph of the bundle's filter; with a second bundle and html, a page on which both
+    "Reports what a profile leaves open of the calls by which a kernel is attacked most, group by group.
+Of each call it is decided for all arguments whether the profile lets it through. With html it writes a page
+for a browser, with the graph of the profile's filter; with a second profile and html, a page on which both
 stand side by side, with what compare tells of them. A page has no scripts, and nothing from elsewhere.
-Status 0, also if two bundles differ, or 4 if a bundle is refused.
+Status 0, also if two profiles differ, or 4 if a profile is refused.
 
 Example: ccell review linux-x86-64 web.json
 ";

@@ -3,25 +3,25 @@
 pub(crate) const MACHINE: &str =
     "the machine: linux-.. has all calls of Linux 7.3, the others about a hundred\n[possible values: linux-x86-64, linux-aarch64, linux-riscv64, linux-ppc64le,\nlinux-loongarch64, linux-s390x, x86-64, aarch64]";
 
-pub(crate) const BUNDLE: &str = "a file with linux.seccomp of the OCI Runtime Specification";
+pub(crate) const PROFILE: &str = "a file with linux.seccomp of the OCI Runtime Specification";
 
-pub(crate) const BUNDLES: &str = "files with linux.seccomp of the OCI Runtime Specification";
+pub(crate) const PROFILES: &str = "files with linux.seccomp of the OCI Runtime Specification";
 
-pub(crate) const OLD: &str = "a file with the old bundle";
+pub(crate) const OLD: &str = "a file with the old profile";
 
-pub(crate) const NEW: &str = "a file with the new bundle";
+pub(crate) const NEW: &str = "a file with the new profile";
 
 pub(crate) const COMPARED: &str =
-    "all that is asked is that the new bundle allows no more; or both files are filters\n[possible values: atmost, filters]";
+    "all that is asked is that the new profile allows no more; or both files are filters\n[possible values: atmost, filters]";
 
 pub(crate) const READ_AS: &str =
     "the profile is written as a line for each rule, for another program\n[possible values: rules]";
 
 pub(crate) const REVIEWED: &str =
-    "the answer is written as a page for a browser; or a second bundle, to be shown beside the first\n[possible values: html]";
+    "the answer is written as a page for a browser; or a second profile, to be shown beside the first\n[possible values: html]";
 
 pub(crate) const REVIEWED_BOTH: &str =
-    "behind a second bundle, which has no other answer\n[possible values: html]";
+    "behind a second profile, which has no other answer\n[possible values: html]";
 
 pub(crate) const FILTER: &str = "a file with instructions of eight bytes";
 
@@ -61,7 +61,7 @@ pub(crate) const CONFIG: &str =
     "a file: a config.json, an engine's own profile, a section linux.seccomp by itself or a\nKubernetes object";
 
 pub(crate) const WORD: &str =
-    "how the bundle is made, in any order\n[possible values: widen, first, looser, stricter, like-libseccomp, narrow, log, for,\ndocker, podman, containerd, cap, kernel]";
+    "how the profile is made, in any order\n[possible values: widen, first, looser, stricter, like-libseccomp, narrow, log, for,\ndocker, podman, containerd, cap, kernel]";
 
 pub(crate) const LEARNED_LOG: &str =
     "files that 'strace -f -n -e raw=all -o LOG' wrote, and what is asked\n[possible values: from, keep, for, crun, runc, bwrap, else, errno, enosys, log, kill]";

@@ -21,9 +21,9 @@ const MANY: usize = usize::MAX;
 // The parts, each with what it is.
 const MACHINE: Part = ("MACHINE", Meaning::Machine);
 
-const BUNDLE: Part = ("BUNDLE", Meaning::Bundle);
+const PROFILE: Part = ("PROFILE", Meaning::Profile);
 
-const BUNDLES: Part = ("BUNDLE", Meaning::Bundles);
+const PROFILES: Part = ("PROFILE", Meaning::Profiles);
 
 const OLD: Part = ("OLD", Meaning::Old);
 
@@ -97,8 +97,8 @@ pub const COMMANDS: &[Entry] = &[
     (
         "check",
         (4, 4),
-        &[MACHINE, BUNDLE, FILTER, CERTIFICATE],
-        "whether a filter does what a bundle says, by a certificate",
+        &[MACHINE, PROFILE, FILTER, CERTIFICATE],
+        "whether a filter does what a profile says, by a certificate",
         Command::Check,
     ),
     (
@@ -106,7 +106,7 @@ pub const COMMANDS: &[Entry] = &[
         (3, 7),
         &[
             MACHINE,
-            BUNDLE,
+            PROFILE,
             FILTER,
             CERTIFIED,
             CERTIFIED_TOO,
@@ -119,43 +119,43 @@ pub const COMMANDS: &[Entry] = &[
     (
         "export",
         (3, 3),
-        &[MACHINE, BUNDLE, FORM],
-        "a checked filter for a bundle",
+        &[MACHINE, PROFILE, FORM],
+        "a checked filter for a profile",
         Command::Export,
     ),
     (
         "run",
         (2, MANY),
-        &[MACHINE, BUNDLES],
+        &[MACHINE, PROFILES],
         "containers on the modelled kernel, by a script",
         Command::Run,
     ),
     (
         "explain",
         (3, MANY),
-        &[MACHINE, BUNDLE, ASKED_CALL],
-        "what a bundle says of one call, and why",
+        &[MACHINE, PROFILE, ASKED_CALL],
+        "what a profile says of one call, and why",
         Command::Explain,
     ),
     (
         "read",
         (2, 3),
-        &[MACHINE, BUNDLE, READ_AS],
-        "what a bundle means, or where it is wrong",
+        &[MACHINE, PROFILE, READ_AS],
+        "what a profile means, or where it is wrong",
         Command::Read,
     ),
     (
         "lint",
         (2, 2),
-        &[MACHINE, BUNDLE],
-        "the calls that get past a bundle by bits that the kernel does not read",
+        &[MACHINE, PROFILE],
+        "the calls that get past a profile by bits that the kernel does not read",
         Command::Lint,
     ),
     (
         "compare",
         (3, 4),
         &[MACHINE, OLD, NEW, COMPARED],
-        "whether a new bundle says the same as an old one, or allows no more",
+        "whether a new profile says the same as an old one, or allows no more",
         Command::Compare,
     ),
     (
@@ -175,8 +175,8 @@ pub const COMMANDS: &[Entry] = &[
     (
         "replay",
         (3, MANY),
-        &[MACHINE, BUNDLE, REPLAYED_LOG],
-        "the calls of logs of strace that a bundle refuses",
+        &[MACHINE, PROFILE, REPLAYED_LOG],
+        "the calls of logs of strace that a profile refuses",
         Command::Replay,
     ),
     (
@@ -224,14 +224,14 @@ pub const COMMANDS: &[Entry] = &[
     (
         "join",
         (3, MANY),
-        &[MACHINE, BUNDLES],
+        &[MACHINE, PROFILES],
         "a profile that allows what one of several allows",
         Command::Join,
     ),
     (
         "meet",
         (3, MANY),
-        &[MACHINE, BUNDLES],
+        &[MACHINE, PROFILES],
         "a profile that allows only what all of several allow",
         Command::Meet,
     ),
@@ -252,8 +252,8 @@ pub const COMMANDS: &[Entry] = &[
     (
         "review",
         (2, 4),
-        &[MACHINE, BUNDLE, REVIEWED, REVIEWED_BOTH],
-        "what a bundle leaves open of the calls by which a kernel is attacked most",
+        &[MACHINE, PROFILE, REVIEWED, REVIEWED_BOTH],
+        "what a profile leaves open of the calls by which a kernel is attacked most",
         Command::Review,
     ),
     (
