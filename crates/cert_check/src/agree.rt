@@ -164,7 +164,7 @@ impl<S: State> Agreement<'_, S> {
         self.says_at(place, &rules[place], arch, nr)
     }
 
-    // Whether a rule of which a condition is said to be met is such a one.
+    // Whether a rule of this number is seen to say the verdict, among the rules with a condition that is said to be met.
     fn one_met_says(&self, arch: Arch, nr: u32) -> bool
         ensures { let a = self.now in IsTrue result → OneSays a.profile.now (out_of a) (met_of a) (known_of a) a.word arch }
     {
@@ -181,7 +181,7 @@ impl<S: State> Agreement<'_, S> {
         false
     }
 
-    // Whether the rule is such a one that was noted for the number that an argument is known to be.
+    // Whether the rule that was noted for the number that an argument is known to be is seen to say the verdict.
     fn equal_says(&self, arch: Arch, nr: u32, equals: &Equals) -> bool
         ensures { let a = self.now in IsTrue result → OneSays a.profile.now (out_of a) (met_of a) (known_of a) a.word arch }
     {
@@ -282,7 +282,7 @@ impl<S: State> Agreement<'_, S> {
         self.all_rules_agree(arch, likely)
     }
 
-    /// Whether no foreign number is possible, of these, or such a one gets its verdict.
+    /// Whether none of these foreign numbers is possible, or the verdict is that of a foreign number.
     pub(crate) fn foreign_numbers_agree(&self, arch: Arch, foreign: &[Numbers]) -> bool
         ensures { IsTrue result ↔ ForeignNumbersAgree (known_of self.now) self.now.word arch foreign.now }
     {

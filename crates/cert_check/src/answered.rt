@@ -98,7 +98,7 @@ pub(crate) fn ask_from<S: State>(
     }
 }
 
-/// Whether it is so, where no condition is likelier than another to decide it.
+/// Whether what is asked is so of the conditions of the rule at a place. None is likelier than another to decide it.
 pub(crate) fn ask<S: State>(
     facts: &Facts<'_, S>,
     mets: &Mets<'_, '_>,

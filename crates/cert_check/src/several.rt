@@ -69,7 +69,8 @@ impl<S: State> Agreement<'_, S> {
         }
     }
 
-    /// Whether it is so of one of the listed machines.
+    /// Whether the record is known to be of one of the listed machines, and a rule that says the verdict is for each number
+    /// that is possible.
     pub(crate) fn says_of_each(&self) -> bool
         ensures { let a = self.now in IsTrue result ↔ SaysOfEach a.profile.now (known_of a) a.word }
     {

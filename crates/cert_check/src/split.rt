@@ -31,7 +31,8 @@ fn goes_up_from(mask: u32, from: u32, to: u32) -> bool
     u64::from(from) == lowest_bit(mask) && to == u32::MAX
 }
 
-// Whether they do so by bits: none of these is set, and else the only one is, or the word is at least the lowest.
+// Whether two literals cover each record by bits, the first one that none of some bits is set. The second one is that
+// the only bit is set, or that the word is at least the lowest.
 fn covers_sharply(first: &Lit, second: &Lit) -> bool
     ensures { IsTrue result ↔ CoversSharply first.now second.now }
 {

@@ -115,9 +115,9 @@ impl<S: State> Agreement<'_, S> {
         self.weigh_left(place, rule, number)
     }
 
-    /// How the rule of the record's machine at a place bears on the verdict, by the last answer to conditions if that serves. A rule that
-    /// says the verdict is asked whether it is yes. Another one is asked whether it is no. One of another number is asked nothing, and most
-    /// often the rule is such a one.
+    /// How the rule of the record's machine at a place bears on the verdict, by the last answer to conditions if that
+    /// serves. Rules for other calls are skipped, the usual case. For a rule with this verdict, ask if all conditions hold;
+    /// else ask if one fails.
     #[inline(always)]
     pub(crate) fn weigh<'r>(
         &self,

@@ -194,7 +194,8 @@ impl Passage<'_> {
         self.rest_follows_by(facts, outs, asked, &mut [false; 6 * MAX_RULES])
     }
 
-    // Whether they follow by these rules that were out and by the conditions that the node before says to be met.
+    // Whether the claims there between two places of the chain follow, by these rules that were out and by the conditions
+    // that the node before says to be met.
     fn rest_follows_but_for<S: State>(
         &self,
         facts: &Facts<'_, S>,
@@ -217,7 +218,7 @@ impl Passage<'_> {
         self.rest_follows_by_many(facts, outs, asked)
     }
 
-    // Whether they follow by all that the node before claims.
+    // Whether the claims there between two places of the chain follow by all that the node before claims.
     #[inline(never)]
     fn rest_follows<S: State>(&self, facts: &Facts<'_, S>, asked: (usize, usize)) -> bool
         ensures { RestFollows self.now (says self.now.node.now).out (S.known facts.now.state.now) asked result }
