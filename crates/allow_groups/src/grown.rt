@@ -107,7 +107,7 @@ fn told(alloc: Global, made: Result<String, Unjudged>, lines: String) -> Result<
     }
 }
 
-// The same of a profile that a bundle means.
+// The bundle that a profile and the calls of groups make, with its lines, or a line in its place.
 fn told_for(
     alloc: Global,
     native: Arch,

@@ -69,7 +69,7 @@ fn put_no_record(text: &mut String) -> Result<(), AllocError>
     text.push_str("\na record is 128 hexadecimal digits")
 }
 
-// The same, but for the machines of the chosen lists.
+// Adds the line that says that digits are not those of a record. For the machines of the chosen lists there is none.
 fn put_why_no_record(text: &mut String, native: Arch) -> Result<(), AllocError>
     ensures { IfOk result (λ _. (line : List ℕ) × spec.is_reason (family_of native) (λ line. line ≡ spec.no_record) line
         × (string_bytes text.new ≡ string_bytes text.old ++ line)) }

@@ -304,7 +304,7 @@ fn read_trimmed(alloc: Global, document: &Document) -> Result<Told, AllocError> 
     }
 }
 
-// What is told of a bundle whose edition is refused.
+// What a bundle whose edition is refused would mean, as a refusal.
 fn read_as_first(alloc: Global, document: &Document) -> Result<Told, AllocError>
     ensures { IfOk result (λ told. told.end ≡ Refused) }
 {

@@ -18,7 +18,7 @@ fn with_lines(told: Told, lines: &[u8]) -> Result<Told, AllocError>
     Ok(Told { bytes, end })
 }
 
-// The same, which is done only if there are no lines.
+// What was told, with lines behind it. It is done only if there are no lines.
 fn done_without_lines(told: Told, lines: &[u8]) -> Result<Told, AllocError>
     ensures bytes { IfOk result (λ new. new.bytes.items ≡ told.bytes.items ++ lines.now) }
     ensures end { IfOk result (λ new. new.end ≡ end_if (length lines.now == 0) told.end) }
@@ -61,7 +61,8 @@ pub fn with_unread(
     with_lines(told, &lines)
 }
 
-/// The same, which is done only if all is read.
+/// What was told of a bundle, with a line for each part of its section that is not read. It is done only if there are
+/// no lines.
 pub fn refusing_unread(
     alloc: Global,
     native: Arch,

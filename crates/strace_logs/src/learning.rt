@@ -123,7 +123,7 @@ fn text_on(
     bundle_of(alloc, machines, keeps, calls, &names, wish.otherwise)
 }
 
-// The same for the machines of the calls and those that are asked for.
+// The text of the bundle, for the machines of the calls and the machines that are asked for. Adds what is told of it.
 fn text_for(
     alloc: Global,
     native: Arch,
@@ -160,7 +160,7 @@ fn learn_calls(
     )
 }
 
-// The same, unless a log has no record.
+// The bundle of what logs show, and what is told of it; or what tells that a log has no record.
 fn learn_shown(
     alloc: Global,
     native: Arch,

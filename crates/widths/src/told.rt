@@ -129,7 +129,7 @@ fn confirmed(
     }
 }
 
-// The same, unless the lowered rules cannot be narrowed.
+// The bundle, if it is seen to mean the narrowed profile. Nothing, if the lowered rules cannot be narrowed.
 fn checked_lowered(
     alloc: Global,
     native: Arch,
@@ -146,7 +146,7 @@ fn checked_lowered(
     }
 }
 
-// The same, unless the rules cannot be lowered.
+// The bundle, if it is seen to mean the narrowed profile. Nothing, if the rules cannot be lowered or narrowed.
 fn checked(alloc: Global, native: Arch, profile: &Profile, text: String) -> Result<Told, AllocError>
     ensures { (bundle : List ℕ) → spec.IsBundle native bundle profile.now → IfOk result (spec.IsTold native bundle) }
 {
