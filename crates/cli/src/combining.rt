@@ -29,7 +29,7 @@ fn found(alloc: Global, bundle: String) -> Both
 {
     let told = Told {
         bytes: bundle.into_bytes(),
-        done: true,
+        end: End::Done,
     };
     Both {
         told,
@@ -39,17 +39,14 @@ fn found(alloc: Global, bundle: String) -> Both
 
 // Why none was made: what is refused on standard output, as other commands have it.
 fn untold(alloc: Global, native: Arch, why: &Uncombined) -> Result<Both, AllocError>
-    ensures { IfOk result (λ both. both.told.done ≡ false) }
+    ensures { IfOk result (λ both. was_done both.told.end ≡ false) }
 {
     let line = line_of(alloc, native, why)?;
-    let (bytes, changes) = match why {
-        Uncombined::Refused(_, _) => (line.into_bytes(), String::new(alloc)),
-        _ => (Vec::new(alloc), line),
+    let (told, changes) = match why {
+        Uncombined::Refused(_, _) => (told_no(line.into_bytes(), End::Refused), String::new(alloc)),
+        _ => (told_no(Vec::new(alloc), End::No), line),
     };
-    Ok(Both {
-        told: Told { bytes, done: false },
-        changes,
-    })
+    Ok(Both { told, changes })
 }
 
 /// What bundles mean together.

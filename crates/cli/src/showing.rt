@@ -94,10 +94,10 @@ fn stopped_line(is: bool) -> &'static str
 fn with_hint(told: Told, hint: Hinted) -> Result<Told, AllocError>
     ensures { IfOk result (HasHint hint told) }
 {
-    let Told { mut bytes, done } = told;
+    let Told { mut bytes, end } = told;
     bytes.extend_from_slice(past_line(hint.past).as_bytes())?;
     bytes.extend_from_slice(stopped_line(hint.stopped).as_bytes())?;
-    Ok(Told { bytes, done })
+    Ok(Told { bytes, end })
 }
 
 // What was told. If the bundle is not refused, the lines of what `lint` has to report stand behind it.
@@ -106,7 +106,7 @@ fn hinted(alloc: Global, document: &Document, told: Told) -> Result<Told, AllocE
         → HasNames document.now.native document.now.bytes meaning told
         → IfOk result (TellsRead document.now.native document.now.bytes) }
 {
-    if !told.done {
+    if !told.end.is_done() {
         return Ok(told);
     }
     let hint = compare::lint::hint(alloc, document)?;
@@ -146,7 +146,7 @@ fn told_text(text: String) -> Told
 {
     Told {
         bytes: text.into_bytes(),
-        done: true,
+        end: End::Done,
     }
 }
 

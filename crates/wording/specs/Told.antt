@@ -17,6 +17,13 @@ was_done Doubtful = true
 was_done No = false
 was_done Refused = false
 
+-- what was given is refused
+abbrev pub was_refused : End → Bool
+was_refused Done = false
+was_refused Doubtful = false
+was_refused No = false
+was_refused Refused = true
+
 -- done if something holds, and no otherwise
 abbrev pub end_of : Bool → End
 end_of true = Done

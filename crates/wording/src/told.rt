@@ -61,6 +61,23 @@ impl End {
         }
     }
 
+    /// Whether what was done is doubtful.
+    pub fn is_doubtful(self) -> bool {
+        matches!(self, End::Doubtful)
+    }
+
+    /// Whether what was given is refused.
+    pub fn is_refused(self) -> bool
+        ensures { result ≡ spec.was_refused self }
+    {
+        match self {
+            End::Done => false,
+            End::Doubtful => false,
+            End::No => false,
+            End::Refused => true,
+        }
+    }
+
     /// Whether it was done.
     pub fn is_done(self) -> bool
         ensures { result ≡ spec.was_done self }

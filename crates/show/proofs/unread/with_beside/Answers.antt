@@ -6,8 +6,8 @@ use Rattle.wording.proofs.Results.{if_ok_both}
 use Rattle.show.specs.Unread.{TellsBeside}
 use Rattle.show.proofs.unread.with_beside.Goals as goal
 
-pub returns-then-not-told : goal.returns-then-not-told
-returns-then-not-told c = inl (sym c.is_done.ensures ∙ not-true c.is_done.result c.if-not-is_done.true, refl)
+pub returns-then-not-is_done : goal.returns-then-not-is_done
+returns-then-not-is_done c = inl (sym c.is_done.ensures ∙ not-true c.is_done.result c.if-not-is_done.true, refl)
 
 pub returns : goal.returns
 returns c =
