@@ -17,6 +17,6 @@ returns c = λ choice is. record {
   is_narrowed = inl (
     sym c.is_done.ensures ∙ not-false c.is_done.result c.if-not-is_done.false,
     told_as_doubtful c.args.native c.args.made.told.bytes.items c.in_ok-narrower.field-0.told c.as_doubtful.result c.as_doubtful.ensures.bytes
-    c.as_doubtful.ensures.done (rw c.new-document.ensures.bytes at (rw c.new-document.ensures.native at c.in_ok-narrower.ensures)),
+        c.as_doubtful.ensures.done (rw c.new-document.ensures.bytes at (rw c.new-document.ensures.native at c.in_ok-narrower.ensures)),
   );
 }
