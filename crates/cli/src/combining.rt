@@ -7,6 +7,7 @@ ghost use Rattle.combine.specs.Stack.{IsOfStack};
 ghost use Rattle.byte_order.specs.Turned.{read_as};
 ghost use Rattle.cli.specs.Combined.{TellsCombined, TellsStack};
 ghost use Rattle.cli.specs.Told.{OfEach};
+ghost use Rattle.wording.specs.Told.{was_done};
 ghost use Rattle.cli.specs.inner.Telling.{IsCombinedOf, IsStackOf, IsToldOf, told_in};
 
 use crate::adapting::Both;
@@ -18,7 +19,7 @@ use combine::{Uncombined, combine, combine_filters, line_of};
 use machines::Arch;
 use std::alloc::{AllocError, Global};
 use together::Way;
-use wording::Told;
+use wording::{End, Told};
 
 // A bundle that was made.
 fn found(alloc: Global, bundle: String) -> Both
@@ -42,11 +43,22 @@ fn untold(alloc: Global, native: Arch, why: &Uncombined) -> Result<Both, AllocEr
     ensures { IfOk result (λ both. was_done both.told.end ≡ false) }
 {
     let line = line_of(alloc, native, why)?;
-    let (told, changes) = match why {
-        Uncombined::Refused(_, _) => (told_no(line.into_bytes(), End::Refused), String::new(alloc)),
-        _ => (told_no(Vec::new(alloc), End::No), line),
-    };
-    Ok(Both { told, changes })
+    match why {
+        Uncombined::Refused(_, _) => Ok(Both {
+            told: Told {
+                bytes: line.into_bytes(),
+                end: End::Refused,
+            },
+            changes: String::new(alloc),
+        }),
+        _ => Ok(Both {
+            told: Told {
+                bytes: Vec::new(alloc),
+                end: End::No,
+            },
+            changes: line,
+        }),
+    }
 }
 
 /// What bundles mean together.

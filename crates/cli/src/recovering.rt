@@ -9,6 +9,7 @@ ghost use Rattle.recover_others.specs.RecoveredOthers.{IsRecoveredOthers};
 ghost use Rattle.cli.specs.Recovered as spec;
 ghost use Rattle.cli.specs.Told.{of_one};
 ghost use Rattle.cli.specs.Written.{WritesMade};
+ghost use Rattle.wording.specs.Told.{was_done};
 ghost use Rattle.cli.specs.inner.Telling.{IsToldOf, told_in};
 
 use crate::adapting::Both;

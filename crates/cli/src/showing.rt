@@ -19,7 +19,7 @@ use machines::Arch;
 use profile_json::Document;
 use rules_text::bundle_text;
 use std::alloc::{AllocError, Global};
-use wording::{Told, refused_profile};
+use wording::{End, Told, refused_profile};
 
 // What is shown of a filter: the lines of its listing, with what they mean, or behind `cost` what it costs the calls.
 fn shown_as(alloc: Global, native: Arch, filter: &[u8], word: &str) -> Result<Told, AllocError>

@@ -316,7 +316,7 @@ pub record TellsEvents (family : Family) (p : Policy) (rules : List Rule) (ends 
     (told : Told) : Type 0 where
   pub some : (events ≢ []) ⊎ (unread ≢ 0)
   pub tells : told.bytes.items ≡ audit_text family p rules ends events unread
-  pub ends : EndsBy (All (MayBe p) events × (unread ≡ 0)) told.end
+  pub end_is : EndsBy (All (MayBe p) events × (unread ≡ 0)) told.end
 
 abbrev pub AnswersEvents : Family → Policy → List Rule → List ℕ → List Event → ℕ → Told → Type 0
 AnswersEvents family p rules ends events unread told = RefusesLines events unread told ⊎ TellsEvents family p rules ends events unread told

@@ -146,9 +146,9 @@ logs_played native p rules ends logs unused calls told none are played =
     record {
       are_logs = none;
       tells = played.tells ∙ ap (replay_text p rules ends unused) are;
-      ends =
+      end_is =
           ends_alike (All (Lets p) calls) (All (TextIsThrough native p) (map (λ (log : List ℕ × List ℕ). log.1) logs)) told.end (
             λ all. through.0 (subst (All (Lets p)) are all),
             λ all. subst (All (Lets p)) (sym are) (through.1 all),
-          ) played.ends;
+          ) played.end_is;
     }

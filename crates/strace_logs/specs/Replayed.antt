@@ -149,7 +149,7 @@ pub record Replays (native : Arch) (bundle : List ℕ) (logs : List (List ℕ ×
   pub read : IsReadAs native bundle policy rules ends
   pub are_logs : first_none native logs ≡ None
   pub tells : told.bytes.items ≡ replay_text policy rules ends unused (calls_in native logs)
-  pub ends : EndsBy (All (TextIsThrough native policy) (map (λ log. log.1) logs)) told.end
+  pub end_is : EndsBy (All (TextIsThrough native policy) (map (λ log. log.1) logs)) told.end
 
 -- The bundle is refused, or a file that is no log. Or the logs, each by its name and its text, were played through the bundle.
 abbrev pub TellsReplayed : Arch → Bool → List ℕ → List (List ℕ × List ℕ) → Told → Type 0

@@ -21,7 +21,7 @@ returns c =
           rw c.into_bytes.ensures.value
           (played_text p rules ends code c.deref.result.now _ (if c.args.tells_unused then unused_text rules ends (all_logged code) else [])
           (ap all_refused c.deref.ensures.value ∙ c.in_ok-refused.ensures) c.in_ok-text.ensures);
-      ends =
+      end_is =
           ends_by (All (λ (call : Logged). LetsThrough p call.words) (all_logged code)) (c.len.result == 0) c.of.result c.of.ensures
           (done_is p rules ends code items c.len.result c.rules-rules.ensures.is_profile.clear c.in_ok-refused.ensures (c.len.ensures ∙ c.in_ok-refused.refused.ok.0));
     }

@@ -21,7 +21,7 @@ pub returns : goal.returns
 returns c = inr (record {
   some = some_is c.args.events.now c.args.unread (sym c.is_nothing.ensures ∙ c.if-is_nothing.false);
   tells = rw c.into_bytes.ensures.value c.in_ok-text.ensures;
-  ends =
+  end_is =
       ends_by (All (MayBe c.args.profile.now) c.args.events.now × (c.args.unread ≡ 0)) c.is_done.result c.of.result c.of.ensures
       (done_is c.args.profile.now c.args.events.now c.args.unread c.is_done.result c.is_done.ensures);
 })
