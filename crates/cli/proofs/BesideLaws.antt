@@ -4,9 +4,9 @@ use Rattle.std.specs.Prelude.{Bool, false, IfOk, Result, Ok, Err}
 use Rattle.std.specs.declared.alloc.AllocError.{AllocError}
 use Rattle.machines.specs.declared.arch.Arch.{Arch}
 use Rattle.compare.specs.Told.{IsCompared}
+use Rattle.wording.specs.Told.{was_refused}
 use Rattle.wording.specs.declared.told.Told.{Told}
 use Rattle.cli.specs.Compared.{TellsCompared, TellsSides, side_rest}
-use Rattle.cli.specs.Refusal.{is_refusal}
 
 -- two parts behind what was there
 pub appended : (old first second between new value : List ℕ) → between ≡ old ++ first → new ≡ between ++ value → value ≡ second
@@ -21,7 +21,7 @@ some_rest (byte ∷ bytes) some = refl
 
 -- two bundles are compared, and what stands beside their profiles is told
 pub told_beside : (atmost : Bool) (native : Arch) (first second : List ℕ) (inner : Told) (result : Result Told AllocError)
-    → IsCompared atmost native first second inner → is_refusal inner.bytes.items ≡ false
+    → IsCompared atmost native first second inner → was_refused inner.end ≡ false
     → IfOk result (TellsSides atmost native first second inner) → IfOk result (TellsCompared atmost native first second)
 told_beside atmost native first second inner (Ok told) is none sides = record { inner = inner; is = is; text = inr (none, sides) }
 told_beside atmost native first second inner (Err e) is none sides = tt

@@ -11,6 +11,8 @@ use Rattle.texts.specs.declared.streams.fault.WriteFault.{WriteFault}
 use Rattle.export.specs.declared.form.Form.{Form}
 use Rattle.explain.specs.Any.{IsExplained as IsExplainedAny}
 use Rattle.explain.specs.Told.{IsExplained}
+use Rattle.wording.specs.declared.told.End.{End}
+use Rattle.wording.specs.declared.told.End.TheVariants as end
 use Rattle.wording.specs.declared.told.Told.{Told}
 use Rattle.maker.specs.Answer.{WritesAnswer}
 use Rattle.compare.specs.Behind.{CertifiesAllBehind, CertifiesBehind}
@@ -45,12 +47,13 @@ abbrev pub now_of : Bor (List ℕ) → List ℕ
 now_of name = name.now
 
 -- what is told is written, and the program ends as it says
-pub written_as : {O : Type 0} (held : O → Option (List ℕ)) (failures : O → Failures) (old new : O) (told : Told) (done refused : Bool)
-    → Wrote held failures old new told.bytes.items → outcome_of told ≡ outcome_by done refused
-    → WritesTold held failures old new told (outcome_by done refused)
-written_as held failures old new told true refused written e = (written, e)
-written_as held failures old new told false true written e = (written, e)
-written_as held failures old new told false false written e = (written, e)
+pub written_as : {O : Type 0} (held : O → Option (List ℕ)) (failures : O → Failures) (old new : O) (told : Told) (by : End)
+    → Wrote held failures old new told.bytes.items → outcome_of told ≡ outcome_by by
+    → WritesTold held failures old new told (outcome_by by)
+written_as held failures old new told end.Done written e = (written, e)
+written_as held failures old new told end.Doubtful written e = (written, e)
+written_as held failures old new told end.No written e = (written, e)
+written_as held failures old new told end.Refused written e = (written, e)
 
 -- a file that is read, and one that is not behind it
 pub behind : (folder : Option Folder) (name bytes : List ℕ) (names : List (List ℕ)) (stop : Stop) → HasBytes folder name bytes

@@ -24,3 +24,4 @@ mod AuditLaws
 mod PartLaws
 pub mod ObjectLaws
 mod ButLaws
+mod DoubtLaws

@@ -18,7 +18,7 @@ use Rattle.strace_logs.specs.declared.lists.Runtime.{Runtime}
 use Rattle.strace_logs.specs.declared.reading.Shown.{Shown}
 use Rattle.strace_logs.specs.Taken.{HaveShown}
 use Rattle.cli.specs.declared.stops.Stop.{Stop}
-use Rattle.cli.specs.declared.stops.Stop.TheVariants.{Usage, CannotRead, Read, Write, OutOfMemory, Refused}
+use Rattle.cli.specs.declared.stops.Stop.TheVariants.{Usage, CannotRead, Read, Write, OutOfMemory, Refused, Doubtful}
 use Rattle.cli.specs.Dispatch.{AnswersBoth, AnswersFrom, AnswersLearn, AnswersLogs, AnswersNamed, AnswersWidened, FirstUnread, HaveBytes, StopsAtLog}
 use Rattle.cli.specs.Dispatch.{StopsAtGroups, StopsForMemory}
 use Rattle.cli.specs.Grouped.{groups_in, others_in}
@@ -156,6 +156,7 @@ stops_at_log folder native ns i d lt shown each Usage at = absurd at
 stops_at_log folder native ns i d lt shown each (Read line) at = absurd at
 stops_at_log folder native ns i d lt shown each (Write out) at = absurd at
 stops_at_log folder native ns i d lt shown each Refused at = absurd at
+stops_at_log folder native ns i d lt shown each Doubtful at = absurd at
 
 -- what is told of them is written
 module _ {O : Type 0} (held : O → Option (List ℕ)) (failures : O → Failures) (folder : Option Folder) (old new : O) (native : Arch)

@@ -1,7 +1,6 @@
 -- What `read` tells of a bundle, and the line behind it; and why there is no text of a profile.
-use Rattle.std.proofs.Common.{◌≡◌, ◌≢◌, ◌++◌, ℕ, true, List, refl, inl, inr}
-use Rattle.std.proofs.lemmas.Bool.{not-true}
-use Rattle.std.specs.Prelude.{IfOk, IfSome, Result, Ok, Err, codes, not}
+use Rattle.std.proofs.Common.{◌≡◌, ◌≢◌, ◌++◌, ℕ, false, List, refl, inl, inr}
+use Rattle.std.specs.Prelude.{IfOk, IfSome, Result, Ok, Err, codes}
 use Rattle.machines.specs.declared.arch.Arch.{Arch}
 use Rattle.compare.specs.Hints.{IsHint}
 use Rattle.compare.specs.declared.lint.hints.Hinted.{Hinted}
@@ -10,16 +9,15 @@ use Rattle.profile_json.specs.Fault.{fault_of, text_of}
 use Rattle.profile_json.specs.declared.fault.ProfileError.{ProfileError}
 use Rattle.profile_json.specs.declared.fault.ProfileError.TheVariants.{OutOfMemory}
 use Rattle.show.specs.Read.{IsReadOut}
-use Rattle.wording.specs.Told.{TellsLine}
+use Rattle.wording.specs.Told.{RefusesBy, was_done}
 use Rattle.wording.specs.declared.told.Told.{Told}
 use Rattle.cli.specs.Read.{HasHint, HasNames, TellsRead, TellsRules}
 
 module _ (native : Arch) (bundle : List ℕ) (told meaning : Told) (is : IsReadOut native bundle meaning)
     (named : HasNames native bundle meaning told) where
   -- a bundle that is refused
-  pub tells_refused : not told.done ≡ true → TellsRead native bundle told
-  tells_refused undone =
-      record { meaning = meaning; is_read = is; inner = told; named = named; hinted = inl (refl, not-true told.done undone) }
+  pub tells_refused : was_done told.end ≡ false → TellsRead native bundle told
+  tells_refused undone = record { meaning = meaning; is_read = is; inner = told; named = named; hinted = inl (refl, undone) }
 
   pub tells_hint : {E : Type 0} (hint : Hinted) (r : Result Told E) → IsHint native bundle hint → IfOk r (HasHint hint told)
       → IfOk r (TellsRead native bundle)
@@ -28,7 +26,7 @@ module _ (native : Arch) (bundle : List ℕ) (told meaning : Told) (is : IsReadO
   tells_hint hint (Err e) is_hint has = tt
 
 pub refuses : {E : Type 0} (native : Arch) (bundle : List ℕ) (e : ProfileError) → IfSome (fault_of e) (Breaks bundle native)
-    → (r : Result Told E) → IfOk r (TellsLine (codes "refused profile " ++ text_of e)) → IfOk r (λ told. e ≢ OutOfMemory)
+    → (r : Result Told E) → IfOk r (RefusesBy (codes "refused profile " ++ text_of e)) → IfOk r (λ told. e ≢ OutOfMemory)
     → IfOk r (TellsRules native bundle)
 refuses native bundle e stands (Ok told) line fault = inl (record { error = e; is_fault = fault; stands = stands; tells = line })
 refuses native bundle e stands (Err x) line fault = tt

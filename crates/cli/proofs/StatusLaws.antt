@@ -11,7 +11,7 @@ use Rattle.maker.specs.Finding.{IsFinding, WritesFinding, is_yes}
 use Rattle.maker.specs.declared.check.Finding.{Finding}
 use Rattle.maker.specs.declared.check.Finding.TheVariants.{Yes, No, NoProfile}
 use Rattle.cli.specs.declared.stops.Stop.{Stop}
-use Rattle.cli.specs.declared.stops.Stop.TheVariants.{Usage, CannotRead, Read, Write, OutOfMemory, Refused}
+use Rattle.cli.specs.declared.stops.Stop.TheVariants.{Usage, CannotRead, Read, Write, OutOfMemory, Refused, Doubtful}
 use Rattle.command_line.specs.declared.prose.Command.TheVariants.{Certify, Check, Run}
 use Rattle.aside.specs.declared.leave.Leave.{Leave}
 use Rattle.aside.specs.Judged.{stub_calls}
@@ -39,6 +39,7 @@ stopped (CannotRead name) e = absurd (cc)
 stopped (Read line) e = absurd (cc)
 stopped (Write out) e = absurd (cc)
 stopped Refused e = absurd (cc)
+stopped Doubtful e = absurd (cc)
 
 -- the finding of a yes that was told
 yes_of : (native : Arch) (b f c : List ℕ) (finding : Finding) → IsFinding native b f c finding → true ≡ is_yes finding

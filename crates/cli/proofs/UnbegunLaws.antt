@@ -1,5 +1,5 @@
 -- Commands that are not begun, and the ends of the program that follow.
-use Rattle.std.proofs.Common.{◌≡◌, ◌⊎◌, ℕ, inl, inr, List, refl, subst, sym}
+use Rattle.std.proofs.Common.{◌≡◌, ◌∙◌, ◌⊎◌, ℕ, true, false, inl, inr, List, refl, subst, sym}
 use Rattle.std.specs.Prelude.{Bool, Option, Result, Ok, Err}
 use Rattle.texts.specs.Failures.{Failures}
 use Rattle.command_line.specs.Lines.{Given, Reads, given, texts}
@@ -9,11 +9,11 @@ use Rattle.cli.specs.Parts.{Parts, parts_of}
 use Rattle.command_line.specs.declared.reading.Misuse.{Misuse}
 use Rattle.command_line.specs.declared.reading.Misuse.TheVariants as kind
 use Rattle.cli.specs.declared.stops.Stop.{Stop}
-use Rattle.cli.specs.declared.stops.Stop.TheVariants.{Usage, CannotRead, Read, Write, OutOfMemory, Refused}
+use Rattle.cli.specs.declared.stops.Stop.TheVariants.{Usage, CannotRead, Read, Write, OutOfMemory, Refused, Doubtful}
 use Rattle.cli.specs.Dispatch.{AskedRefusal, Does, ExplainsBy, ExplainsWhy, IsMisuse, Tells, TellsMisuse}
 use Rattle.cli.specs.Files.{Folder}
 use Rattle.cli.specs.Remarked.{RemarksBy, RemarksOf}
-use Rattle.cli.specs.Stop.{ReportsOn, status_of, stop_at_misuse}
+use Rattle.cli.specs.Stop.{ReportsOn, is_told, status_of, stop_at_misuse}
 
 module _ {I O : Type 0} (left : I → Option (List ℕ)) (taking : I → Failures) (held : O → Option (List ℕ)) (taken : O → Failures)
     (folder : Option Folder) (input : I) (out : O) where
@@ -46,51 +46,45 @@ is_misuse kind.OutOfMemory result e = subst IsMisuse (sym e) tt
 abbrev ended : Stop → Result Bool Stop
 ended stop = Err stop
 
--- it stops for another reason than that what was given is refused
+-- the answer does not say why
 abbrev IsOther : Stop → Type 0
-IsOther Refused = ⊥
-IsOther other = Unit {0}
-
-abbrev IsOtherEnd : Result Bool Stop → Type 0
-IsOtherEnd (Err stop) = IsOther stop
-IsOtherEnd (Ok done) = Unit {0}
-
-is_other : (stop : Stop) → IsOther stop → stop ≡ Refused → ⊥
-is_other stop other e = subst IsOther e other
+IsOther stop = is_told stop ≡ false
 
 module _ {E : Type 0} (held : E → Option (List ℕ)) (failures : E → Failures) (old between new : E) (arguments : List (List ℕ)) where
   -- nothing is told before the line that says why
-  unchanged : (stop : Stop) → IsOther stop → (ended stop ≡ ended Refused) ⊎ (between ≡ old) → between ≡ old
-  unchanged stop other (inl e) = absurd (subst IsOtherEnd e other)
+  unchanged : (stop : Stop) → IsOther stop → (is_told stop ≡ true) ⊎ (between ≡ old) → between ≡ old
+  unchanged stop other (inl e) = let no : false ≡ true = sym other ∙ e in absurd (cc)
   unchanged stop other (inr e) = e
 
-  reported : (stop : Stop) → IsOther stop → (ended stop ≡ ended Refused) ⊎ (between ≡ old)
-      → ((stop ≡ Refused → ⊥) → ReportsOn held failures between new arguments stop) → ReportsOn held failures old new arguments stop
+  reported : (stop : Stop) → IsOther stop → (is_told stop ≡ true) ⊎ (between ≡ old)
+      → (IsOther stop → ReportsOn held failures between new arguments stop) → ReportsOn held failures old new arguments stop
   reported stop other stopped lines =
-      subst (λ e. ReportsOn held failures e new arguments stop) (unchanged stop other stopped) (lines (is_other stop other))
+      subst (λ e. ReportsOn held failures e new arguments stop) (unchanged stop other stopped) (lines other)
 
   -- what is told, and then the lines on files that are no bundles
   abbrev pub Ends : Given → Stop → Type 0
   Ends command stop =
       (told : E) × Tells held failures old told arguments command (ended stop) × RemarksBy held failures command (ended stop) told new
 
-  pub ends_stop : (command : Given) (stop : Stop) → (ended stop ≡ ended Refused) ⊎ (between ≡ old)
-      → (ended stop ≡ ended Refused → AskedRefusal command ⊎ (between ≡ old))
-      → (stop ≡ Refused → RemarksOf held failures command between new)
-      → ((stop ≡ Refused → ⊥) → ReportsOn held failures between new arguments stop) → Ends command stop
-  ends_stop command Refused stopped refused remarks lines = (between, refused refl, remarks refl)
-  ends_stop command Usage stopped refused remarks lines = (new, reported Usage tt stopped lines, refl)
-  ends_stop command OutOfMemory stopped refused remarks lines = (new, reported OutOfMemory tt stopped lines, refl)
-  ends_stop command (CannotRead name) stopped refused remarks lines = (new, reported (CannotRead name) tt stopped lines, refl)
-  ends_stop command (Read line) stopped refused remarks lines = (new, reported (Read line) tt stopped lines, refl)
-  ends_stop command (Write out) stopped refused remarks lines = (new, reported (Write out) tt stopped lines, refl)
+  pub ends_stop : (command : Given) (stop : Stop) → (is_told stop ≡ true) ⊎ (between ≡ old)
+      → (is_told stop ≡ true → AskedRefusal command ⊎ (between ≡ old))
+      → (stop ≡ Refused → RemarksOf held failures command between new) → (stop ≡ Doubtful → new ≡ between)
+      → (IsOther stop → ReportsOn held failures between new arguments stop) → Ends command stop
+  ends_stop command Refused stopped refused remarks quiet lines = (between, refused refl, remarks refl)
+  ends_stop command Doubtful stopped refused remarks quiet lines = (between, refused refl, quiet refl)
+  ends_stop command Usage stopped refused remarks quiet lines = (new, reported Usage refl stopped lines, refl)
+  ends_stop command OutOfMemory stopped refused remarks quiet lines = (new, reported OutOfMemory refl stopped lines, refl)
+  ends_stop command (CannotRead name) stopped refused remarks quiet lines = (new, reported (CannotRead name) refl stopped lines, refl)
+  ends_stop command (Read line) stopped refused remarks quiet lines = (new, reported (Read line) refl stopped lines, refl)
+  ends_stop command (Write out) stopped refused remarks quiet lines = (new, reported (Write out) refl stopped lines, refl)
 
   pub tells_misuse : (stop : Stop) (status : ℕ) → IsMisuse (Err stop) → status ≡ status_of stop
-      → (ended stop ≡ ended Refused) ⊎ (between ≡ old) → ((stop ≡ Refused → ⊥) → ReportsOn held failures between new arguments stop)
+      → (is_told stop ≡ true) ⊎ (between ≡ old) → (IsOther stop → ReportsOn held failures between new arguments stop)
       → TellsMisuse held failures old new arguments status
-  tells_misuse Usage status is e stopped lines = inl (e, reported Usage tt stopped lines)
-  tells_misuse OutOfMemory status is e stopped lines = inr (e, reported OutOfMemory tt stopped lines)
+  tells_misuse Usage status is e stopped lines = inl (e, reported Usage refl stopped lines)
+  tells_misuse OutOfMemory status is e stopped lines = inr (e, reported OutOfMemory refl stopped lines)
   tells_misuse (CannotRead name) status is e stopped lines = absurd is
   tells_misuse (Read line) status is e stopped lines = absurd is
   tells_misuse (Write out) status is e stopped lines = absurd is
   tells_misuse Refused status is e stopped lines = absurd is
+  tells_misuse Doubtful status is e stopped lines = absurd is

@@ -1,5 +1,5 @@
 -- Words with and without `narrow`.
-use Rattle.std.proofs.Common.{◌≡◌, ℕ, ◌+◌, inl, inr, List, [], length, map, refl, subst, sym, arith, ap, ◌∙◌}
+use Rattle.std.proofs.Common.{◌≡◌, ℕ, ◌+◌, false, inl, inr, List, [], length, map, refl, subst, sym, arith, ap, ◌∙◌}
 use Rattle.std.proofs.lemmas.List.{length-map}
 use Rattle.std.proofs.lemmas.List.Filters.{length-filter_both}
 use Rattle.std.specs.Prelude.{Bool, false, true, IfOk, None, Some, Option, Result, Err, Ok, filter, not}
@@ -11,6 +11,7 @@ use Rattle.cli.specs.Adapted.{AsksNarrow, IsMadeBy, IsMadeOfDraft, IsNarrowedOne
 use Rattle.section.specs.Sections.{KeepsMeaning}
 use Rattle.section.specs.Texts.{IsBundleText}
 use Rattle.cli.specs.declared.adapting.Both.{Both}
+use Rattle.wording.specs.Told.{was_done}
 use Rattle.wording.specs.declared.told.Told.{Told}
 
 abbrev pub now_of : Bor (List ℕ) → List ℕ
@@ -33,12 +34,12 @@ made_narrow native choice words (Ok both) asks is = inl (asks, is)
 made_narrow native choice words (Err e) asks is = tt
 
 -- nothing was made
-nothing_made : (native : Arch) (choice : Option Choice) (told : Told) → told.done ≡ false → IsMadeOfDraft native choice told
-nothing_made native None told e = ([], λ done. cc)
-nothing_made native (Some choice) told e = ([], λ done. cc)
+nothing_made : (native : Arch) (choice : Option Choice) (told : Told) → was_done told.end ≡ false → IsMadeOfDraft native choice told
+nothing_made native None told e = ([], λ done. let never : true ≡ false = sym done ∙ e in absurd (cc))
+nothing_made native (Some choice) told e = ([], λ done. let never : true ≡ false = sym done ∙ e in absurd (cc))
 
 pub made_none : (native : Arch) (choice : Option Choice) (words : List (Bor (List ℕ))) (made told : Told) → IsMadeBy native choice words made
-    → told.done ≡ false → IsMadeBy native choice words told
+    → was_done told.end ≡ false → IsMadeBy native choice words told
 made_none native choice words made told (inl (asks, is)) e =
     inl (asks, record { made = told; is_made = nothing_made native choice told e; is_narrowed = inr (e, refl) })
 made_none native choice words made told (inr (others, is)) e = inr (others, nothing_made native choice told e)
@@ -46,23 +47,23 @@ made_none native choice words made told (inr (others, is)) e = inr (others, noth
 -- what was made is kept, or nothing is
 module _ (native : Arch) (made : Told) (result : Result Both AllocError) where
   pub made_unless : (choice : Option Choice) (words : List (Bor (List ℕ))) (is_like : Bool)
-      → (is_like ≡ true → IfOk result (λ new. new.told ≡ made)) → (is_like ≡ false → IfOk result (λ new. new.told.done ≡ false))
+      → (is_like ≡ true → IfOk result (λ new. new.told ≡ made)) → (is_like ≡ false → IfOk result (λ new. was_done new.told.end ≡ false))
       → IsMadeBy native choice words made → IfOk result (λ new. IsMadeBy native choice words new.told)
   made_unless choice words is_like like unlike is = by result is_like like unlike where
     by : (r : Result Both AllocError) (b : Bool) → (b ≡ true → IfOk r (λ new. new.told ≡ made))
-        → (b ≡ false → IfOk r (λ new. new.told.done ≡ false)) → IfOk r (λ new. IsMadeBy native choice words new.told)
+        → (b ≡ false → IfOk r (λ new. was_done new.told.end ≡ false)) → IfOk r (λ new. IsMadeBy native choice words new.told)
     by (Ok both) true same none = subst (λ t. IsMadeBy native choice words t) (sym (same refl)) is
     by (Ok both) false same none = made_none native choice words made both.told is (none refl)
     by (Err e) b same none = tt
 
   pub kept_unless : (text bundle : List ℕ) → IsBundleText native text bundle → (is_like : Bool)
       → (is_like ≡ true → KeepsMeaning native bundle made.bytes.items) → (is_like ≡ true → IfOk result (λ new. new.told ≡ made))
-      → (is_like ≡ false → IfOk result (λ new. new.told.done ≡ false))
-      → IfOk result (λ new. new.told.done ≡ true → KeepsText native text new.told.bytes.items)
+      → (is_like ≡ false → IfOk result (λ new. was_done new.told.end ≡ false))
+      → IfOk result (λ new. was_done new.told.end ≡ true → KeepsText native text new.told.bytes.items)
   kept_unless text bundle taken is_like keeps like unlike = by result is_like keeps like unlike where
     by : (r : Result Both AllocError) (b : Bool) → (b ≡ true → KeepsMeaning native bundle made.bytes.items)
-        → (b ≡ true → IfOk r (λ new. new.told ≡ made)) → (b ≡ false → IfOk r (λ new. new.told.done ≡ false))
-        → IfOk r (λ new. new.told.done ≡ true → KeepsText native text new.told.bytes.items)
+        → (b ≡ true → IfOk r (λ new. new.told ≡ made)) → (b ≡ false → IfOk r (λ new. was_done new.told.end ≡ false))
+        → IfOk r (λ new. was_done new.told.end ≡ true → KeepsText native text new.told.bytes.items)
     by (Ok both) true keep same none = λ done. record {
       bundle = bundle;
       taken = taken;

@@ -9,6 +9,7 @@ use Rattle.engines.specs.Adapted.{IsMade}
 use Rattle.engines.specs.Words.{AskFor}
 use Rattle.engines.specs.declared.words.Wanted.{Wanted}
 use Rattle.machines.specs.declared.arch.Arch.{Arch}
+use Rattle.wording.specs.Told.{was_done}
 use Rattle.wording.specs.declared.told.Told.{Told}
 use Rattle.widths.specs.Narrow.{IsTold}
 use Rattle.engines.specs.declared.settling.choice.Choice.{Choice}
@@ -37,7 +38,7 @@ IsMadeOfDraft native choice told = (draft : List ℕ) × IsMade native choice dr
 pub record IsNarrowedOne (native : Arch) (choice : Option Choice) (told : Told) : Type 0 where
   pub made : Told
   pub is_made : IsMadeOfDraft native choice made
-  pub is_narrowed : ((made.done ≡ true) × IsTold native made.bytes.items told) ⊎ ((made.done ≡ false) × (told ≡ made))
+  pub is_narrowed : ((was_done made.end ≡ true) × IsTold native made.bytes.items told) ⊎ ((was_done made.end ≡ false) × (told ≡ made))
 
 -- a bundle that was made, or the narrowed one of it if `narrow` is one of the words
 abbrev pub IsMadeBy : Arch → Option Choice → List (Bor (List ℕ)) → Told → Type 0
@@ -55,4 +56,4 @@ pub record IsMadeAs (native : Arch) (text : List ℕ) (words : List (Bor (List �
   pub wanted : Wanted
   pub asked : AskToAdapt (map (λ w. w.now) words) wanted
   pub made : IsMadeBy native wanted.choice words told
-  pub kept : words ≡ [] → told.done ≡ true → KeepsText native text told.bytes.items
+  pub kept : words ≡ [] → was_done told.end ≡ true → KeepsText native text told.bytes.items

@@ -21,6 +21,9 @@ use Rattle.texts.specs.Sink.{StopsAt as StopsWriting, Wrote}
 use Rattle.texts.specs.declared.streams.fault.WriteFault.{WriteFault}
 use Rattle.export.specs.declared.form.Form.{Form}
 use Rattle.explain.specs.Told.{IsAssembled, IsExplained, IsRecorded, IsVersion}
+use Rattle.wording.specs.Told.{was_done}
+use Rattle.wording.specs.declared.told.End.{End}
+use Rattle.wording.specs.declared.told.End.TheVariants as end
 use Rattle.wording.specs.declared.told.Told.{Told}
 use Rattle.explain.specs.Any.{IsExplained as IsExplainedAny}
 use Rattle.explain.specs.Audit.{IsAudited}
@@ -39,12 +42,11 @@ use Rattle.maker.specs.Certified.{Certifies}
 use Rattle.maker.specs.Exported.{Exports}
 use Rattle.maker.specs.Finding.{WritesFinding}
 use Rattle.cli.specs.declared.stops.Stop.{Stop}
-use Rattle.cli.specs.declared.stops.Stop.TheVariants.{CannotRead, OutOfMemory, Refused, Usage, Write}
+use Rattle.cli.specs.declared.stops.Stop.TheVariants.{CannotRead, Doubtful, OutOfMemory, Refused, Usage, Write}
 use Rattle.cli.specs.Explained.{TellsAllBehind, TellsBehind, TellsRecord}
 use Rattle.cli.specs.Adapted.{AskNothing, IsMadeAs}
 use Rattle.cli.specs.Grouped.{OneIsUnknown, WithGroups, groups_in, others_in}
 use Rattle.cli.specs.Read.{TellsLinted, TellsRead, TellsRules}
-use Rattle.cli.specs.Refusal.{is_refusal}
 use Rattle.cli.specs.Remarked.{RemarksBy}
 use Rattle.cli.specs.Recovered.{TellsAsked, has_word}
 use Rattle.review.specs.Reviewed.{IsReviewed}
@@ -102,8 +104,8 @@ StopsAtLog folder logs (CannotRead name) = BreaksAt folder logs name.now
 StopsAtLog folder logs OutOfMemory = Unit {0}
 StopsAtLog folder logs other = ⊥
 
--- The exit status. It is 0 if the answer is yes or it was done, and 1 if it is no. It is 4 if what was given is refused, and 2 or 3 if the
--- program stopped.
+-- The exit status. It is 0 if the answer is yes or it was done, and 1 if it is no. It is 4 if what was given is refused, 5 if it was
+-- done and is doubtful, and 2 or 3 if the program stopped.
 abbrev pub exit_status : Result Bool Stop → ℕ
 exit_status (Ok true) = 0
 exit_status (Ok false) = 1
@@ -165,6 +167,7 @@ abbrev pub Tells : {E : Type 0} → (E → Option (List ℕ)) → (E → Failure
 Tells held failures old new arguments given (Ok true) = AskedChanges given ⊎ (new ≡ old)
 Tells held failures old new arguments given (Ok false) = AskedRefusal given ⊎ (new ≡ old)
 Tells held failures old new arguments given (Err Refused) = AskedRefusal given ⊎ (new ≡ old)
+Tells held failures old new arguments given (Err Doubtful) = AskedRefusal given ⊎ (new ≡ old)
 Tells held failures old new arguments given (Err stop) = ReportsOn held failures old new arguments stop
 
 -- a file is not read: the program stops there, and nothing is written
@@ -181,19 +184,21 @@ pub record AnswersBy (Writes : Result Bool WriteFault → Type 0) (result : Resu
   pub written : Writes answer
   pub told : result ≡ told_line answer
 
--- how a command ends, by whether it was done, and whether its answer is that what was given is refused
-abbrev pub outcome_by : Bool → Bool → Result Bool Stop
-outcome_by true refused = Ok true
-outcome_by false true = Err Refused
-outcome_by false false = Ok false
+-- how the program ends, by how the command does
+abbrev pub outcome_by : End → Result Bool Stop
+outcome_by end.Done = Ok true
+outcome_by end.Doubtful = Err Doubtful
+outcome_by end.No = Ok false
+outcome_by end.Refused = Err Refused
 
 abbrev pub outcome_of : Told → Result Bool Stop
-outcome_of told = outcome_by told.done (is_refusal told.bytes.items)
+outcome_of told = outcome_by told.end
 
 -- What is told is written, and the program ends as it says; or a call of the sink failed.
 abbrev pub WritesTold : {O : Type 0} → (O → Option (List ℕ)) → (O → Failures) → O → O → Told → Result Bool Stop → Type 0
 WritesTold held failures old new told (Ok done) = Wrote held failures old new told.bytes.items × (outcome_of told ≡ Ok done)
 WritesTold held failures old new told (Err Refused) = Wrote held failures old new told.bytes.items × (outcome_of told ≡ Err Refused)
+WritesTold held failures old new told (Err Doubtful) = Wrote held failures old new told.bytes.items × (outcome_of told ≡ Err Doubtful)
 WritesTold held failures old new told (Err (Write out)) = StopsWriting held failures old new told.bytes.items out
 WritesTold held failures old new told (Err other) = ⊥
 
@@ -202,7 +207,7 @@ module _ {O : Type 0} (held : O → Option (List ℕ)) (failures : O → Failure
   abbrev pub ExportsTurned : Arch → List ℕ → Form → Result Bool Stop → Type 0
   ExportsTurned native bundle form result =
       ((result ≡ Err OutOfMemory) × (new ≡ old))
-      ⊎ ((told : Told) × TellsExported native form bundle told × TellsObjects held failures old new told.bytes.items (Ok told.done) result)
+      ⊎ ((told : Told) × TellsExported native form bundle told × TellsObjects held failures old new told.bytes.items (Ok (was_done told.end)) result)
 
   abbrev pub ExportsFor : Bool → Arch → List ℕ → Form → Result Bool Stop → Type 0
   ExportsFor true native bundle form result = ExportsTurned native bundle form result

@@ -5,6 +5,7 @@ use Rattle.byte_order.specs.Turned.{written_as}
 use Rattle.export.specs.declared.form.Form.{Form}
 use Rattle.export.specs.declared.form.Form.TheVariants.{Raw}
 use Rattle.maker.specs.Exported.{Exports}
+use Rattle.wording.specs.Told.{was_done}
 use Rattle.wording.specs.declared.told.Told.{Told}
 use Rattle.cli.specs.Json.{Kept, kept, kept_failures}
 
@@ -18,5 +19,5 @@ pub record TellsExported (native : Arch) (form : Form) (bundle : List ℕ) (told
   pub before : Kept
   pub after : Kept
   pub empty : before.writer.items ≡ []
-  pub exports : Exports kept kept_failures before after native bundle form (Ok told.done)
-  pub file : told.bytes.items ≡ file_in native form told.done after.writer.items
+  pub exports : Exports kept kept_failures before after native bundle form (Ok (was_done told.end))
+  pub file : told.bytes.items ≡ file_in native form (was_done told.end) after.writer.items

@@ -5,10 +5,11 @@ use Rattle.byte_order.specs.Turned.{read_as, written_as}
 use Rattle.flatten.specs.Stack.{IsFlat}
 use Rattle.flatten.specs.Unflat.{Says}
 use Rattle.flatten.specs.declared.unflat.Unflat.{Unflat}
+use Rattle.wording.specs.declared.told.End.TheVariants.{Done, No}
 use Rattle.wording.specs.declared.told.Told.{Told}
 
 -- It was done, and what is told is the file of one filter that answers as those of the files do. Or it was not, for a reason.
 abbrev pub TellsFlat : Arch → List (List ℕ) → Told → Type 0
 TellsFlat native files told =
-    ((told.done ≡ true) × ((made : List ℕ) × IsFlat (map (read_as native) files) made × (told.bytes.items ≡ written_as native made)))
-    ⊎ ((told.done ≡ false) × ((why : Unflat) × Says (map (read_as native) files) why))
+    ((told.end ≡ Done) × ((made : List ℕ) × IsFlat (map (read_as native) files) made × (told.bytes.items ≡ written_as native made)))
+    ⊎ ((told.end ≡ No) × ((why : Unflat) × Says (map (read_as native) files) why))

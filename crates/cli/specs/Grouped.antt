@@ -4,6 +4,7 @@ use Rattle.std.specs.List.{list_all}
 use Rattle.allow_groups.specs.Allowed.{HasGroups}
 use Rattle.call_groups.specs.Groups.{is_group, is_known}
 use Rattle.machines.specs.declared.arch.Arch.{Arch}
+use Rattle.wording.specs.Told.{was_done}
 use Rattle.wording.specs.declared.told.Told.{Told}
 
 -- the words that name groups, and the others
@@ -29,9 +30,9 @@ OneIsUnknown groups = are_known groups ≡ false
 -- With no groups, or where nothing was made, it is what was made. Else it is a bundle with the calls of the groups, or none.
 abbrev pub IsGrown : Arch → List (List ℕ) → Told → Told → Type 0
 IsGrown native groups made told =
-    (((groups ≡ []) ⊎ (made.done ≡ false)) × (told ≡ made))
-    ⊎ ((made.done ≡ true)
-    × (told.done ≡ true → (lines : List ℕ) × HasGroups native groups made.bytes.items told.bytes.items lines))
+    (((groups ≡ []) ⊎ (was_done made.end ≡ false)) × (told ≡ made))
+    ⊎ ((was_done made.end ≡ true)
+    × (was_done told.end ≡ true → (lines : List ℕ) × HasGroups native groups made.bytes.items told.bytes.items lines))
 
 -- so is what was made
 abbrev pub WithGroups : Arch → List (List ℕ) → (Told → Type 0) → Told → Type 0

@@ -13,7 +13,7 @@ use Rattle.json_lines.specs.Kinds.{kinds_of}
 use Rattle.json_lines.specs.Objects.{told_certificate, told_lines}
 use Rattle.cli.specs.Stop.{stop_at_fault}
 use Rattle.cli.specs.declared.stops.Stop.{Stop}
-use Rattle.cli.specs.declared.stops.Stop.TheVariants.{CannotRead, OutOfMemory, Read, Refused, Usage, Write}
+use Rattle.cli.specs.declared.stops.Stop.TheVariants.{CannotRead, Doubtful, OutOfMemory, Read, Refused, Usage, Write}
 
 -- a sink that keeps all bytes in memory, and what it tells of itself
 abbrev pub Kept : Type 0
@@ -59,8 +59,9 @@ kept_stop (CannotRead name) = CannotRead name
 kept_stop (Read line) = Read line
 kept_stop OutOfMemory = OutOfMemory
 kept_stop Refused = Refused
+kept_stop Doubtful = Doubtful
 
--- The objects of an answer that the command gave, and of one that what was given is refused. Else the program stops, and none is written.
+-- The objects of an answer that the command gave, also of one that what was given is refused, or is doubtful. Else the program stops, and none is written.
 abbrev pub WritesObjects : {O : Type 0} → (O → Option (List ℕ)) → (O → Failures) → O → O → Command → List ℕ → List ℕ → Result Bool Stop
     → Result Bool Stop → Type 0
 WritesObjects held failures old new command name answer (Ok true) result =
@@ -69,4 +70,6 @@ WritesObjects held failures old new command name answer (Ok false) result =
     TellsObjects held failures old new (objects_by false name answer 1) (Ok false) result
 WritesObjects held failures old new command name answer (Err Refused) result =
     TellsObjects held failures old new (objects_by false name answer 4) (Err Refused) result
+WritesObjects held failures old new command name answer (Err Doubtful) result =
+    TellsObjects held failures old new (objects_by false name answer 5) (Err Doubtful) result
 WritesObjects held failures old new command name answer (Err stop) result = (result ≡ Err (kept_stop stop)) × (new ≡ old)

@@ -5,7 +5,6 @@ pub mod Running
 pub mod Explained
 pub mod Exported
 pub mod Adapted
-pub mod Refusal
 pub mod Compared
 pub mod Told
 pub mod Written

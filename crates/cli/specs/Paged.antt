@@ -6,7 +6,7 @@ use Rattle.export.specs.declared.form.Form.TheVariants.{Raw}
 use Rattle.page.specs.Page.{Side, page_of_one, page_of_two}
 use Rattle.review.specs.Reviewed.{IsReviewed}
 use Rattle.show.specs.Shown.{IsDrawn}
-use Rattle.wording.specs.Told.{TellsText}
+use Rattle.wording.specs.Told.{TellsText, was_done}
 use Rattle.wording.specs.declared.told.Told.{Told}
 use Rattle.cli.specs.Compared.{TellsCompared}
 use Rattle.cli.specs.Exported.{TellsExported}
@@ -15,11 +15,11 @@ use Rattle.cli.specs.Exported.{TellsExported}
 pub record DrawsExport (native : Arch) (bundle : List ℕ) (graph : Told) : Type 0 where
   pub file : Told
   pub exported : TellsExported native Raw bundle file
-  pub drawn : ((file.done ≡ false) × (graph ≡ file)) ⊎ ((file.done ≡ true) × IsDrawn (read_as native file.bytes.items) graph)
+  pub drawn : ((was_done file.end ≡ false) × (graph ≡ file)) ⊎ ((was_done file.end ≡ true) × IsDrawn (read_as native file.bytes.items) graph)
 
 -- what a page shows of a bundle
 abbrev pub side_of : List ℕ → Told → Told → Side
-side_of name review graph = record { name = name; review = review.bytes.items; graph = graph.bytes.items; is_drawn = graph.done }
+side_of name review graph = record { name = name; review = review.bytes.items; graph = graph.bytes.items; is_drawn = was_done graph.end }
 
 -- the page of a bundle of which this is told
 pub record IsPaged (native : Arch) (name bundle : List ℕ) (review told : Told) : Type 0 where
@@ -41,7 +41,7 @@ pub record ArePaged (native : Arch) (old_name new_name old new : List ℕ) (firs
 pub record TellsPage (native : Arch) (name bundle : List ℕ) (told : Told) : Type 0 where
   pub review : Told
   pub is_reviewed : IsReviewed native bundle review
-  pub page : ((review.done ≡ false) × (told ≡ review)) ⊎ ((review.done ≡ true) × IsPaged native name bundle review told)
+  pub page : ((was_done review.end ≡ false) × (told ≡ review)) ⊎ ((was_done review.end ≡ true) × IsPaged native name bundle review told)
 
 -- the same of two bundles: the first of them that is refused is told, and a page only if both were done
 pub record TellsPages (native : Arch) (old_name new_name old new : List ℕ) (told : Told) : Type 0 where
@@ -49,6 +49,6 @@ pub record TellsPages (native : Arch) (old_name new_name old new : List ℕ) (to
   pub is_first : IsReviewed native old first
   pub second : Told
   pub is_second : IsReviewed native new second
-  pub page : ((first.done ≡ false) × (told ≡ first))
-      ⊎ ((first.done ≡ true) × (((second.done ≡ false) × (told ≡ second))
-      ⊎ ((second.done ≡ true) × ArePaged native old_name new_name old new first second told)))
+  pub page : ((was_done first.end ≡ false) × (told ≡ first))
+      ⊎ ((was_done first.end ≡ true) × (((was_done second.end ≡ false) × (told ≡ second))
+      ⊎ ((was_done second.end ≡ true) × ArePaged native old_name new_name old new first second told)))

@@ -7,7 +7,7 @@ use Rattle.compare.specs.declared.lint.hints.Hinted.{Hinted}
 use Rattle.compare.specs.Linted.{IsLinted}
 use Rattle.show.specs.Read.{IsReadOut}
 use Rattle.show.specs.Unread.{RefusesUnread}
-use Rattle.wording.specs.Told.{RefusesBundle, TellsText}
+use Rattle.wording.specs.Told.{RefusesBundle, TellsText, was_done}
 use Rattle.wording.specs.declared.told.Told.{Told}
 use Rattle.rules_text.specs.Text.{IsTextOf}
 
@@ -16,7 +16,7 @@ pub record HasNames (native : Arch) (bundle : List ℕ) (inner told : Told) : Ty
   pub lines : List ℕ
   pub names : AreNames native bundle lines
   pub text : told.bytes.items ≡ inner.bytes.items ++ lines
-  pub done : told.done ≡ inner.done
+  pub end : told.end ≡ inner.end
 
 -- the lines behind what a bundle means: if calls get past it, and if it stops some
 abbrev pub past_line : Bool → List ℕ
@@ -28,7 +28,7 @@ stopped_line is = if is then codes "ccell lint reports calls that this bundle st
 -- those lines stand behind what is told
 pub record HasHint (hint : Hinted) (inner told : Told) : Type 0 where
   pub text : told.bytes.items ≡ inner.bytes.items ++ (past_line hint.past ++ stopped_line hint.stopped)
-  pub done : told.done ≡ inner.done
+  pub end : told.end ≡ inner.end
 
 -- What the bundle means, or why it is refused, and the names of constants. If it is not refused, the lines behind these tell what `lint`
 -- has to report.
@@ -37,7 +37,7 @@ pub record TellsRead (native : Arch) (bundle : List ℕ) (told : Told) : Type 0 
   pub is_read : IsReadOut native bundle meaning
   pub inner : Told
   pub named : HasNames native bundle meaning inner
-  pub hinted : ((told ≡ inner) × (inner.done ≡ false)) ⊎ ((hint : Hinted) × HasHint hint inner told × IsHint native bundle hint)
+  pub hinted : ((told ≡ inner) × (was_done inner.end ≡ false)) ⊎ ((hint : Hinted) × HasHint hint inner told × IsHint native bundle hint)
 
 -- What `lint` finds, the lines of what is not read, and the names of constants. It is done only if nothing is found, and all is read.
 pub record TellsLinted (native : Arch) (bundle : List ℕ) (told : Told) : Type 0 where

@@ -6,22 +6,23 @@ use Rattle.machines.specs.declared.arch.Arch.{Arch}
 use Rattle.recover.specs.Recovered.{IsRecovered}
 use Rattle.recover_but.specs.RecoveredBut.{IsToldBut}
 use Rattle.recover_others.specs.RecoveredOthers.{IsRecoveredOthers}
+use Rattle.wording.specs.Told.{was_done}
 use Rattle.wording.specs.declared.told.Told.{Told}
 use Rattle.cli.specs.Written.{IsEmptyUnlessDone}
 
 -- if it was done, the bundle that is told means the filter's profile
 abbrev pub TellsRecovered : Arch → List ℕ → Told → Type 0
-TellsRecovered native filter told = (told.done ≡ true → IsRecovered native told.bytes.items filter) × IsEmptyUnlessDone told
+TellsRecovered native filter told = (was_done told.end ≡ true → IsRecovered native told.bytes.items filter) × IsEmptyUnlessDone told
 
 -- if it was done, the filter is right for the bundle that is told but for calls of which lines tell
 abbrev pub TellsRecoveredBut : Arch → Bool → Leave → List ℕ → Told → Type 0
 TellsRecoveredBut native runc leave filter told =
-    (told.done ≡ true → (lines : List ℕ) × IsToldBut native filter runc leave told.bytes.items lines) × IsEmptyUnlessDone told
+    (was_done told.end ≡ true → (lines : List ℕ) × IsToldBut native filter runc leave told.bytes.items lines) × IsEmptyUnlessDone told
 
 -- if it was done, the filter allows calls of other machines, and the bundle that is told means what it says of all others
 abbrev pub TellsRecoveredOthers : Arch → List ℕ → Told → Type 0
 TellsRecoveredOthers native filter told =
-    (told.done ≡ true → IsRecoveredOthers native told.bytes.items filter) × IsEmptyUnlessDone told
+    (was_done told.end ≡ true → IsRecoveredOthers native told.bytes.items filter) × IsEmptyUnlessDone told
 
 -- one of the words is this
 abbrev pub has_word : List ℕ → List (List ℕ) → Bool

@@ -1,5 +1,5 @@
 -- Why a run stopped, its exit status, and the line that says so.
-use Rattle.std.specs.Prelude.{ℕ, ◌≡◌, ◌⊎◌, List, [], ◌∷◌, ◌++◌, Result, Option, codes}
+use Rattle.std.specs.Prelude.{ℕ, ◌≡◌, ◌⊎◌, Bool, true, false, List, [], ◌∷◌, ◌++◌, Result, Ok, Err, Option, codes}
 use Rattle.std.specs.Fmt.{decimal}
 use Rattle.command_line.specs.Lines.{IsOurs}
 use Rattle.texts.specs.Lines.{line_feed}
@@ -12,7 +12,7 @@ use Rattle.session.specs.declared.fault.ScriptFault.TheVariants as script
 use Rattle.command_line.specs.declared.reading.Misuse.{Misuse}
 use Rattle.command_line.specs.declared.reading.Misuse.TheVariants as misuse
 use Rattle.cli.specs.declared.stops.Stop.{Stop}
-use Rattle.cli.specs.declared.stops.Stop.TheVariants.{Usage, CannotRead, Read, Write, OutOfMemory, Refused}
+use Rattle.cli.specs.declared.stops.Stop.TheVariants.{Usage, CannotRead, Read, Write, OutOfMemory, Refused, Doubtful}
 
 abbrev pub status_of : Stop → ℕ
 status_of Usage = 2
@@ -21,8 +21,23 @@ status_of (Read line) = 3
 status_of (Write out) = 3
 status_of OutOfMemory = 3
 status_of Refused = 4
+status_of Doubtful = 5
 
--- the text that says it; of what is refused the answer says it, so this one is not written
+-- the answer says why, and no line is written
+abbrev pub is_told : Stop → Bool
+is_told Usage = false
+is_told (CannotRead name) = false
+is_told (Read line) = false
+is_told (Write out) = false
+is_told OutOfMemory = false
+is_told Refused = true
+is_told Doubtful = true
+
+abbrev pub ends_told : Result Bool Stop → Bool
+ends_told (Ok done) = false
+ends_told (Err stop) = is_told stop
+
+-- the text that says it; the last two are not written
 abbrev pub text_of : Stop → List ℕ
 text_of Usage = codes "ccell: usage"
 text_of (CannotRead name) = codes "ccell: cannot read " ++ name.now
@@ -30,6 +45,7 @@ text_of (Read line) = codes "ccell: read failed at line " ++ decimal line
 text_of (Write out) = codes "ccell: write failed after " ++ decimal out ++ codes " bytes"
 text_of OutOfMemory = codes "ccell: out of memory"
 text_of Refused = codes "ccell: refused"
+text_of Doubtful = codes "ccell: doubtful"
 
 -- the line that says it
 abbrev pub line_of : Stop → List ℕ

@@ -8,6 +8,7 @@ use Rattle.command_line.specs.Lines.{row_called}
 use Rattle.command_line.specs.Manual.{IsPage, list_of}
 use Rattle.command_line.specs.Table.{rows}
 use Rattle.wording.specs.Told.{TellsText}
+use Rattle.wording.specs.declared.told.End.TheVariants.{Done}
 use Rattle.wording.specs.declared.told.Told.{Told}
 use Rattle.strace_logs.specs.Replayed.{TellsReplayed}
 
@@ -54,7 +55,7 @@ pub record OfArguments (Is : List (Bor (List ℕ)) → Told → Type 0) (argumen
 -- it was done: the list of commands, or the page of the one of that name
 abbrev pub IsManual : Option (List ℕ) → Told → Type 0
 IsManual None told = TellsText (list_of rows) told
-IsManual (Some name) told = IsPage (row_called name rows) (Some told.bytes.items) × (told.done ≡ true)
+IsManual (Some name) told = IsPage (row_called name rows) (Some told.bytes.items) × (told.end ≡ Done)
 
 -- there is no command of that name
 abbrev pub IsNoCommand : Option (List ℕ) → Type 0

@@ -9,6 +9,7 @@ use Rattle.strace_logs.specs.declared.lists.Otherwise.TheVariants.{Kill}
 use Rattle.strace_logs.specs.declared.lists.Runtime.{Runtime}
 use Rattle.together.specs.Combined.{IsCombined}
 use Rattle.together.specs.declared.way.Way.TheVariants.{Laxest}
+use Rattle.wording.specs.Told.{was_done}
 use Rattle.wording.specs.declared.told.Told.{Told}
 
 -- the profile behind the word `from`, and the words behind it
@@ -37,4 +38,4 @@ pub record IsWidened (native : Arch) (file : List ℕ) (texts : List (List ℕ))
   pub both : IsCombined native Laxest (learned ∷ bundle ∷ []) made
 
 abbrev pub TellsWidened : Arch → List ℕ → List (List ℕ) → Option Runtime → Otherwise → Told → Type 0
-TellsWidened native file texts runtime otherwise told = told.done ≡ true → IsWidened native file texts runtime otherwise told.bytes.items
+TellsWidened native file texts runtime otherwise told = was_done told.end ≡ true → IsWidened native file texts runtime otherwise told.bytes.items

@@ -4,6 +4,7 @@ use Rattle.machines.specs.declared.arch.Arch.{Arch}
 use Rattle.machines.specs.declared.arch.Family.{Family}
 use Rattle.machines.specs.declared.arch.Family.TheVariants.{Chosen, Whole}
 use Rattle.machines.specs.Arch.{family_of}
+use Rattle.wording.specs.Told.{was_done}
 use Rattle.wording.specs.declared.told.Told.{Told}
 use Rattle.section.specs.Sections.{IsSectionOf}
 
@@ -18,13 +19,13 @@ NamesForm words others false = (words ≡ others) × ((more : List (List ℕ)) �
 
 -- if it was not done, nothing is written
 abbrev pub IsEmptyUnlessDone : Told → Type 0
-IsEmptyUnlessDone told = told.done ≡ false → told.bytes.items ≡ []
+IsEmptyUnlessDone told = was_done told.end ≡ false → told.bytes.items ≡ []
 
 -- The section of a bundle that was made, or nothing. Or none was made, which is told.
 abbrev pub IsItsSection : Arch → Told → Told → Type 0
 IsItsSection native made told =
-    ((made.done ≡ false) × (told ≡ made))
-    ⊎ ((made.done ≡ true) × ((told.done ≡ true → IsSectionOf native made.bytes.items told.bytes.items) × IsEmptyUnlessDone told))
+    ((was_done made.end ≡ false) × (told ≡ made))
+    ⊎ ((was_done made.end ≡ true) × ((was_done told.end ≡ true → IsSectionOf native made.bytes.items told.bytes.items) × IsEmptyUnlessDone told))
 
 -- Where all calls of Linux are meant, a section is written. For the machines of the chosen lists, where none is read, it is the bundle.
 abbrev pub IsWrittenFor : Family → Arch → Told → Told → Type 0

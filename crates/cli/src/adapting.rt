@@ -5,6 +5,7 @@ ghost use Rattle.engines.specs.declared.words.Wanted.{Wanted as TheWanted};
 ghost use Rattle.engines.specs.declared.settling.choice.Choice.{Choice as TheChoice};
 ghost use Rattle.cli.specs.Adapted.{AskToAdapt, AsksNarrow, IsMadeAs, IsMadeBy, IsMadeOfDraft, IsNarrowedOne, KeepsText, is_narrow};
 ghost use Rattle.cli.specs.Told.{OfArguments, of_one};
+ghost use Rattle.wording.specs.Told.{was_done};
 ghost use Rattle.cli.specs.inner.Telling.{IsAdaptedOf, IsBundleOf, IsGrownBundleOf, IsToldOf, told_in};
 
 use crate::files::{Files, read};
@@ -18,7 +19,7 @@ use profile_json::Document;
 use section::{bundle_text, keeps_meaning};
 use std::alloc::{AllocError, Global};
 use widths::{Narrowing, narrow};
-use wording::Told;
+use wording::{End, Told};
 
 /// What a command tells: on standard output, and on standard error.
 #[derive(Drop)]
@@ -58,6 +59,17 @@ fn wanted(alloc: Global, words: &[&str]) -> Result<Option<Wanted>, AllocError>
     Ok(wanted_of(&rest))
 }
 
+/// What is told, as doubtful if what it was made of is.
+pub(crate) fn as_doubtful(told: Told, made: End) -> Told
+    ensures bytes { result.bytes ≡ told.bytes }
+    ensures done { was_done result.end ≡ was_done told.end }
+{
+    Told {
+        bytes: told.bytes,
+        end: told.end.doubted(made.is_doubtful()),
+    }
+}
+
 // The narrowed bundle of a bundle that was made, with the changes of both.
 fn narrowed(alloc: Global, native: Arch, made: Adapted) -> Result<Both, AllocError>
     ensures { (choice : Option TheChoice) → IsMadeOfDraft native choice made.told → IfOk result (λ both. IsNarrowedOne native choice both.told) }
@@ -67,7 +79,7 @@ fn narrowed(alloc: Global, native: Arch, made: Adapted) -> Result<Both, AllocErr
         draft: _draft,
         mut changes,
     } = made;
-    if !told.done {
+    if !told.end.is_done() {
         return Ok(Both { told, changes });
     }
     let document = Document::new(alloc, told.bytes, native);
@@ -77,7 +89,7 @@ fn narrowed(alloc: Global, native: Arch, made: Adapted) -> Result<Both, AllocErr
     } = narrow(alloc, &document)?;
     changes.push_str(&more)?;
     Ok(Both {
-        told: narrower,
+        told: as_doubtful(narrower, told.end),
         changes,
     })
 }
@@ -110,7 +122,7 @@ fn hinted(alloc: Global, native: Arch, made: Adapted) -> Result<Both, AllocError
         draft: _draft,
         mut changes,
     } = made;
-    if told.done {
+    if told.end.is_done() {
         let bytes = Vec::from_slice(alloc, &told.bytes)?;
         let hint = compare::lint::hint(alloc, &Document::new(alloc, bytes, native))?;
         push_hint(&mut changes, hint)?;
@@ -141,14 +153,14 @@ const UNLIKE: &str = "ccell: nothing is written: it would not mean what this fil
 // What was made, or nothing.
 fn unless_unlike(alloc: Global, is_like: bool, both: Both) -> Result<Both, AllocError>
     ensures like { is_like ≡ true → IfOk result (λ new. new.told ≡ both.told) }
-    ensures unlike { is_like ≡ false → IfOk result (λ new. new.told.done ≡ false) }
+    ensures unlike { is_like ≡ false → IfOk result (λ new. was_done new.told.end ≡ false) }
 {
     if is_like {
         return Ok(both);
     }
     let told = Told {
         bytes: Vec::new(alloc),
-        done: false,
+        end: End::No,
     };
     let changes = String::from_str(alloc, UNLIKE)?;
     Ok(Both { told, changes })
@@ -158,9 +170,9 @@ fn unless_unlike(alloc: Global, is_like: bool, both: Both) -> Result<Both, Alloc
 fn kept(alloc: Global, native: Arch, text: Vec<u8>, both: Both) -> Result<Both, AllocError>
     ensures made { (choice : Option TheChoice) (words : List (Bor (List ℕ))) → IsMadeBy native choice words both.told
         → IfOk result (λ new. IsMadeBy native choice words new.told) }
-    ensures kept { IfOk result (λ new. new.told.done ≡ true → KeepsText native text.items new.told.bytes.items) }
+    ensures kept { IfOk result (λ new. was_done new.told.end ≡ true → KeepsText native text.items new.told.bytes.items) }
 {
-    if !both.told.done {
+    if !both.told.end.is_done() {
         return Ok(both);
     }
     let bundle = bundle_text(alloc, native, text)?;
@@ -177,7 +189,7 @@ fn made_as(
     words: &[&str],
 ) -> Result<Both, AllocError>
     ensures made { IfOk result (λ both. IsMadeBy native wanted.now.choice words.now both.told) }
-    ensures kept { words.now ≡ [] → IfOk result (λ both. both.told.done ≡ true → KeepsText native text.items both.told.bytes.items) }
+    ensures kept { words.now ≡ [] → IfOk result (λ both. was_done both.told.end ≡ true → KeepsText native text.items both.told.bytes.items) }
 {
     let both = made_of(alloc, native, &text, wanted, words)?;
     if words.is_empty() {

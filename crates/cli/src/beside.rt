@@ -1,12 +1,11 @@
 //! What `ccell compare` tells of flags and listeners, which stand beside the profiles of bundles.
 ghost use Rattle.std.specs.Prelude.{◌≡◌, ◌++◌, IfOk};
-ghost use Rattle.cli.specs.Compared.{TellsCompared, TellsSides, is_done as done_beside, side_head, side_rest, side_text, sides_text};
+ghost use Rattle.cli.specs.Compared.{TellsCompared, TellsSides, end_beside, side_head, side_rest, side_text, sides_text};
 
-use crate::telling::is_refusal;
 use profile_json::Document;
 use section::beside_of;
 use std::alloc::{AllocError, Global};
-use wording::Told;
+use wording::{End, Told};
 
 // Adds which of two bundles is spoken of.
 fn put_head(text: &mut Vec<u8>, side: &str) -> Result<(), AllocError>
@@ -52,14 +51,14 @@ fn sides_of(alloc: Global, old: &[u8], new: &[u8]) -> Result<Vec<u8>, AllocError
     Ok(text)
 }
 
-// Whether it is done: with `atmost` only if both have the same beside their profiles. Without flags some engines turn mitigations off.
-fn is_done(at_most: bool, old: &[u8], new: &[u8], done: bool) -> bool
-    ensures { result ≡ done_beside at_most old.now new.now done }
+// How it ends: with `atmost` it is done only if both have the same beside their profiles. Without flags some engines turn mitigations off.
+fn end_of(at_most: bool, old: &[u8], new: &[u8], end: End) -> End
+    ensures { result ≡ end_beside at_most old.now new.now end }
 {
     if at_most {
-        return done && old == new;
+        return end.only_if(old == new);
     }
-    done
+    end
 }
 
 // What was told of two bundles, behind what they have beside their profiles.
@@ -79,7 +78,7 @@ fn behind_sides(
     bytes.extend_from_slice(&told.bytes)?;
     Ok(Told {
         bytes,
-        done: is_done(at_most, &old, &new, told.done),
+        end: end_of(at_most, &old, &new, told.end),
     })
 }
 
@@ -94,7 +93,7 @@ pub(crate) fn compared_beside(
         → IfOk result (TellsCompared at_most first.now.native first.now.bytes second.now.bytes) }
 {
     let told = compare::compare(alloc, first, second, at_most)?;
-    if is_refusal(&told.bytes) {
+    if told.end.is_refused() {
         return Ok(told);
     }
     behind_sides(alloc, first, second, told, at_most)

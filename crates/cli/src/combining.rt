@@ -7,6 +7,7 @@ ghost use Rattle.combine.specs.Stack.{IsOfStack};
 ghost use Rattle.byte_order.specs.Turned.{read_as};
 ghost use Rattle.cli.specs.Combined.{TellsCombined, TellsStack};
 ghost use Rattle.cli.specs.Told.{OfEach};
+ghost use Rattle.wording.specs.Told.{was_done};
 ghost use Rattle.cli.specs.inner.Telling.{IsCombinedOf, IsStackOf, IsToldOf, told_in};
 
 use crate::adapting::Both;
@@ -18,7 +19,7 @@ use combine::{Uncombined, combine, combine_filters, line_of};
 use machines::Arch;
 use std::alloc::{AllocError, Global};
 use together::Way;
-use wording::Told;
+use wording::{End, Told};
 
 // A bundle that was made.
 fn found(alloc: Global, bundle: String) -> Both
@@ -29,7 +30,7 @@ fn found(alloc: Global, bundle: String) -> Both
 {
     let told = Told {
         bytes: bundle.into_bytes(),
-        done: true,
+        end: End::Done,
     };
     Both {
         told,
@@ -39,17 +40,25 @@ fn found(alloc: Global, bundle: String) -> Both
 
 // Why none was made: what is refused on standard output, as other commands have it.
 fn untold(alloc: Global, native: Arch, why: &Uncombined) -> Result<Both, AllocError>
-    ensures { IfOk result (λ both. both.told.done ≡ false) }
+    ensures { IfOk result (λ both. was_done both.told.end ≡ false) }
 {
     let line = line_of(alloc, native, why)?;
-    let (bytes, changes) = match why {
-        Uncombined::Refused(_, _) => (line.into_bytes(), String::new(alloc)),
-        _ => (Vec::new(alloc), line),
-    };
-    Ok(Both {
-        told: Told { bytes, done: false },
-        changes,
-    })
+    match why {
+        Uncombined::Refused(_, _) => Ok(Both {
+            told: Told {
+                bytes: line.into_bytes(),
+                end: End::Refused,
+            },
+            changes: String::new(alloc),
+        }),
+        _ => Ok(Both {
+            told: Told {
+                bytes: Vec::new(alloc),
+                end: End::No,
+            },
+            changes: line,
+        }),
+    }
 }
 
 /// What bundles mean together.

@@ -2,8 +2,8 @@
 ghost use Rattle.std.specs.Prelude.{◌≡◌, ◌≢◌, false, true};
 ghost use Rattle.command_line.specs.Lines.{Given, IsCommandLine, texts};
 ghost use Rattle.cli.specs.Remarked.{RemarksOf};
-ghost use Rattle.cli.specs.Stop.{MayAdvise, ReportsOn, status_of};
-ghost use Rattle.cli.specs.declared.stops.Stop.TheVariants.{Refused};
+ghost use Rattle.cli.specs.Stop.{MayAdvise, ReportsOn, is_told as stops_told, status_of};
+ghost use Rattle.cli.specs.declared.stops.Stop.TheVariants.{Doubtful, Refused};
 
 use crate::files::Files;
 use crate::remarking::remark_on;
@@ -34,6 +34,21 @@ fn report_on<E: Sink>(alloc: Global, arguments: &[&str], stop: &Stop<'_>, err: &
     status
 }
 
+// Whether the answer says why the program ends so.
+fn is_told(stop: &Stop<'_>) -> bool
+    ensures { result ≡ stops_told stop.now }
+{
+    match stop {
+        Stop::Usage => false,
+        Stop::CannotRead(_) => false,
+        Stop::Read(_) => false,
+        Stop::Write(_) => false,
+        Stop::OutOfMemory => false,
+        Stop::Refused => true,
+        Stop::Doubtful => true,
+    }
+}
+
 // Whether what was given is refused, as the answer says.
 fn is_refused(stop: &Stop<'_>) -> bool
     ensures yes { result ≡ true → stop.now ≡ Refused }
@@ -42,7 +57,8 @@ fn is_refused(stop: &Stop<'_>) -> bool
     matches!(stop, Stop::Refused)
 }
 
-/// The exit status where the program stops, and the line that says why. If the answer says it, lines on files that are no bundles stand behind it.
+/// The exit status where the program stops, and the line that says why. If what was given is refused, the answer says it, and lines on files
+/// that are no bundles stand behind it. If what was done is doubtful, no line is written.
 pub(crate) fn status_on<F: Files, E: Sink>(
     alloc: Global,
     arguments: &[&str],
@@ -53,12 +69,16 @@ pub(crate) fn status_on<F: Files, E: Sink>(
     ensures status { result ≡ status_of stop.now }
     ensures remarks { stop.now ≡ Refused → (command : Given) → IsCommandLine arguments.entry.now command
         → RemarksOf E.held E.failures command err.old err.new }
-    ensures lines { stop.now ≢ Refused → ReportsOn E.held E.failures err.old err.new (texts arguments.now) stop.now }
+    ensures quiet { stop.now ≡ Doubtful → err.new ≡ err.old }
+    ensures lines { stops_told stop.now ≡ false → ReportsOn E.held E.failures err.old err.new (texts arguments.now) stop.now }
     ensures unopened { stop.now ≢ Refused → files.new ≡ files.old }
 {
+    if !is_told(stop) {
+        return report_on(alloc, arguments, stop, err);
+    }
     if is_refused(stop) {
         remark_on(alloc, arguments, files, err);
         return stop.status();
     }
-    report_on(alloc, arguments, stop, err)
+    stop.status()
 }

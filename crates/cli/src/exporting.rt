@@ -11,7 +11,7 @@ use machines::Arch;
 use maker::export_bundle;
 use std::alloc::{AllocError, Global};
 use texts::{Sink, ToWrite, write_all};
-use wording::Told;
+use wording::{End, Told};
 
 // The bytes of a filter as the machine has them, and any other answer as it is.
 fn file_of(
@@ -46,7 +46,10 @@ pub(crate) fn exported(
     match export_bundle(alloc, native, bundle, form, &mut kept) {
         Ok(done) => {
             let bytes = file_of(alloc, native, form, done, &kept.writer)?;
-            Ok(Told { bytes, done })
+            Ok(Told {
+                bytes,
+                end: End::of(done),
+            })
         }
         Err(_no_memory) => Err(AllocError),
     }
@@ -64,7 +67,7 @@ fn export_turned<'a, O: Sink>(
 {
     match exported(alloc, native, bundle, form) {
         Ok(told) => match write_all(&told.bytes, out) {
-            Ok(()) => Ok(told.done),
+            Ok(()) => Ok(told.end.is_done()),
             Err(fault) => Err(Stop::from(fault)),
         },
         Err(_no_memory) => Err(Stop::OutOfMemory),

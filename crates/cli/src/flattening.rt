@@ -1,7 +1,8 @@
 //! What `ccell flatten` does.
-ghost use Rattle.std.specs.Prelude.{◌≡◌, IfOk, false, map, true};
+ghost use Rattle.std.specs.Prelude.{◌≡◌, IfOk, map};
 ghost use Rattle.byte_order.specs.Turned.{written_as};
 ghost use Rattle.cli.specs.Flat.{TellsFlat};
+ghost use Rattle.wording.specs.declared.told.End.TheVariants.{Done, No};
 ghost use Rattle.cli.specs.inner.Telling.{IsToldOf};
 
 use crate::files::{Files, read_each};
@@ -10,26 +11,29 @@ use byte_order::{each_read_as, written_as};
 use flatten::{Unflat, flatten, line_of};
 use machines::Arch;
 use std::alloc::{AllocError, Global};
-use wording::Told;
+use wording::{End, Told};
 
 // Why there is none.
 fn untold(alloc: Global, why: &Unflat) -> Result<Told, AllocError>
-    ensures { IfOk result (λ told. told.done ≡ false) }
+    ensures { IfOk result (λ told. told.end ≡ No) }
 {
     let line = line_of(alloc, why)?;
     Ok(Told {
         bytes: line.into_bytes(),
-        done: false,
+        end: End::No,
     })
 }
 
 // The file of a filter.
 fn told_filter(alloc: Global, native: Arch, filter: &[u8]) -> Result<Told, AllocError>
     ensures file { IfOk result (λ told. told.bytes.items ≡ written_as native filter.now) }
-    ensures done { IfOk result (λ told. told.done ≡ true) }
+    ensures end { IfOk result (λ told. told.end ≡ Done) }
 {
     let bytes = written_as(alloc, native, filter)?;
-    Ok(Told { bytes, done: true })
+    Ok(Told {
+        bytes,
+        end: End::Done,
+    })
 }
 
 // The filter that answers as those of files do, or why there is none.

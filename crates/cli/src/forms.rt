@@ -4,13 +4,14 @@ ghost use Rattle.machines.specs.Arch.{family_of};
 ghost use Rattle.section.specs.Sections.{IsSectionOf};
 ghost use Rattle.cli.specs.Written.{IsEmptyUnlessDone, IsItsSection, IsWritten, IsWrittenFor, NamesForm};
 ghost use Rattle.cli.specs.inner.Telling.{IsInForm, told_in};
+ghost use Rattle.wording.specs.Told.{was_done};
 
-use crate::adapting::Both;
+use crate::adapting::{Both, as_doubtful};
 use crate::stops::Stop;
 use machines::{Arch, Family};
 use section::section_of;
 use std::alloc::{AllocError, Global};
-use wording::Told;
+use wording::{End, Told};
 
 // Whether a word asks for the bundle.
 fn is_bundle(word: &str) -> bool
@@ -50,7 +51,7 @@ fn its_section(
     bundle: &[u8],
     changes: &mut String,
 ) -> Result<Told, AllocError>
-    ensures section { IfOk result (λ told. told.done ≡ true → IsSectionOf native bundle.now told.bytes.items) }
+    ensures section { IfOk result (λ told. was_done told.end ≡ true → IsSectionOf native bundle.now told.bytes.items) }
     ensures empty { IfOk result IsEmptyUnlessDone }
 {
     match section_of(alloc, native, bundle)? {
@@ -58,14 +59,14 @@ fn its_section(
             changes.push_str(TAKEN)?;
             Ok(Told {
                 bytes: text.into_bytes(),
-                done: true,
+                end: End::Done,
             })
         }
         None => {
             changes.push_str(NOT_WRITTEN)?;
             Ok(Told {
                 bytes: Vec::new(alloc),
-                done: false,
+                end: End::No,
             })
         }
     }
@@ -76,12 +77,12 @@ fn as_section(alloc: Global, native: Arch, both: Both) -> Result<Both, AllocErro
     ensures { IfOk result (λ new. IsItsSection native both.told new.told) }
 {
     let Both { told, mut changes } = both;
-    if !told.done {
+    if !told.end.is_done() {
         return Ok(Both { told, changes });
     }
     let section = its_section(alloc, native, &told.bytes, &mut changes)?;
     Ok(Both {
-        told: section,
+        told: as_doubtful(section, told.end),
         changes,
     })
 }

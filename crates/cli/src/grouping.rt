@@ -4,7 +4,7 @@ ghost use Rattle.cli.specs.Grouped as spec;
 ghost use Rattle.cli.specs.Grouped.{IsGrown};
 ghost use Rattle.cli.specs.inner.Telling.{IsWithGroups, GrowsTold, told_in};
 
-use crate::adapting::Both;
+use crate::adapting::{Both, as_doubtful};
 use crate::stops::Stop;
 use allow_groups::{Grown, allow_groups};
 use call_groups::{is_group, is_known};
@@ -71,12 +71,15 @@ fn grown(alloc: Global, native: Arch, groups: &[&str], both: Both) -> Result<Bot
     ensures { IfOk result (λ new. IsGrown native (map (λ g. g.now) groups.now) both.told new.told) }
 {
     let Both { told, mut changes } = both;
-    if !told.done {
+    if !told.end.is_done() {
         return Ok(Both { told, changes });
     }
     let Grown { told: new, lines } = allow_groups(alloc, native, &told.bytes, groups)?;
     changes.push_str(&lines)?;
-    Ok(Both { told: new, changes })
+    Ok(Both {
+        told: as_doubtful(new, told.end),
+        changes,
+    })
 }
 
 // What was made, with the calls of groups if any are named.

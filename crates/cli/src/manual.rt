@@ -7,7 +7,7 @@ ghost use Rattle.cli.specs.inner.Telling.{IsManualOf, IsToldOf};
 
 use crate::stops::Stop;
 use std::alloc::Global;
-use wording::Told;
+use wording::{End, Told};
 
 /// The commands, or the page of one.
 pub(crate) fn manual<'a>(alloc: Global, command: Option<&str>) -> Result<Told, Stop<'a>>
@@ -16,7 +16,7 @@ pub(crate) fn manual<'a>(alloc: Global, command: Option<&str>) -> Result<Told, S
     match command_line::manual(alloc, command) {
         Ok(Some(text)) => Ok(Told {
             bytes: text.into_bytes(),
-            done: true,
+            end: End::Done,
         }),
         Ok(None) => Err(Stop::Usage),
         Err(_no_memory) => Err(Stop::OutOfMemory),

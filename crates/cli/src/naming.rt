@@ -12,7 +12,7 @@ pub(crate) fn with_names(alloc: Global, document: &Document, told: Told) -> Resu
     ensures { IfOk result (HasNames document.now.native document.now.bytes told) }
 {
     let lines = names_of(alloc, document)?;
-    let Told { mut bytes, done } = told;
+    let Told { mut bytes, end } = told;
     bytes.extend_from_slice(&lines)?;
-    Ok(Told { bytes, done })
+    Ok(Told { bytes, end })
 }

@@ -1,7 +1,8 @@
 //! An answer that was kept in memory, written as JSON lines.
-ghost use Rattle.std.specs.Prelude.{◌≡◌, ◌⊎◌, [], Err, IfOk, Ok, OnErr};
+ghost use Rattle.std.specs.Prelude.{◌≡◌, ◌⊎◌, [], Err, IfOk, Ok, OnErr, true};
 ghost use Rattle.cli.specs.Json as spec;
-ghost use Rattle.cli.specs.declared.stops.Stop.TheVariants.{OutOfMemory, Refused};
+ghost use Rattle.cli.specs.Stop.{ends_told};
+ghost use Rattle.cli.specs.declared.stops.Stop.TheVariants.{OutOfMemory};
 
 use crate::stops::Stop;
 use command_line::Command;
@@ -106,7 +107,7 @@ pub(crate) fn write_answer<'a, O: Sink, E: Sink>(
     err: &mut E,
 ) -> Result<bool, Stop<'a>>
     ensures writes { spec.WritesObjects O.held O.failures out.old out.new command name.now answer.now outcome.entry result }
-    ensures stopped { OnErr result ((result ≡ Err Refused) ⊎ (err.new ≡ err.old)) }
+    ensures stopped { OnErr result ((ends_told result ≡ true) ⊎ (err.new ≡ err.old)) }
     ensures quiet { told.now ≡ [] → err.new ≡ err.old }
 {
     match outcome {
@@ -125,6 +126,15 @@ pub(crate) fn write_answer<'a, O: Sink, E: Sink>(
             write_made(
                 objects_of(alloc, false, name, answer, 4),
                 Err(Stop::Refused),
+                told,
+                out,
+                err,
+            )
+        }
+        Err(Stop::Doubtful) => {
+            write_made(
+                objects_of(alloc, false, name, answer, 5),
+                Err(Stop::Doubtful),
                 told,
                 out,
                 err,

@@ -9,7 +9,7 @@ ghost use Rattle.cli.specs.Dispatch.{Answers, AnswersCheck, AnswersExport, Answe
 ghost use Rattle.cli.specs.Dispatch.{AnswersObjects, AskedChanges, AskedRefusal, DoesAsked, DoesObjects, OfInner};
 ghost use Rattle.cli.specs.Dispatch.{Does, DoesWith, ExplainsBy, ExplainsWhy, IsMisuse, TellsChanges, TellsMisuse, TellsRefusal, asks_but, leave_of};
 ghost use Rattle.cli.specs.Statuses.{AreRight, AreRightAtLeast, AreRightBehind, HasRun};
-ghost use Rattle.cli.specs.declared.stops.Stop.TheVariants.{Refused};
+ghost use Rattle.cli.specs.Stop.{ends_told};
 
 use crate::adapting::adapted;
 use crate::certifying::certify_asked;
@@ -133,10 +133,10 @@ fn obey<'a, F: Files, I: Source, O: Sink, E: Sink>(
     ensures does { DoesWith I.left I.failures O.held O.failures (F.folder files.old) input.old input.new out.old out.new
         command (read parts.entry) result }
     // Nothing is told on standard error but of a filter that is convicted, of a stub, and of what was changed.
-    ensures stopped { OnErr result ((result ≡ Err Refused) ⊎ (err.new ≡ err.old)) }
+    ensures stopped { OnErr result ((ends_told result ≡ true) ⊎ (err.new ≡ err.old)) }
     ensures quiet { result ≡ Ok true → TellsChanges command (read parts.entry) ⊎ (err.new ≡ err.old) }
     ensures no { result ≡ Ok false → TellsRefusal command (read parts.entry) ⊎ (err.new ≡ err.old) }
-    ensures refused { result ≡ Err Refused → TellsRefusal command (read parts.entry) ⊎ (err.new ≡ err.old) }
+    ensures refused { ends_told result ≡ true → TellsRefusal command (read parts.entry) ⊎ (err.new ≡ err.old) }
     // Of a filter that is convicted the record is explained that was told.
     ensures explained { ExplainsBy O.held O.failures E.held E.failures (F.folder files.old) out.old out.new err.old err.new
         command (read parts.entry) result }
@@ -225,10 +225,10 @@ fn answer_in_objects<'a, F: Files, I: Source, O: Sink, E: Sink>(
 ) -> Result<bool, Stop<'a>>
     ensures answers { AnswersObjects I.left I.failures O.held O.failures (F.folder files.old) input.old input.new out.old out.new
         (given line.entry) name.now result }
-    ensures stopped { OnErr result ((result ≡ Err Refused) ⊎ (err.new ≡ err.old)) }
+    ensures stopped { OnErr result ((ends_told result ≡ true) ⊎ (err.new ≡ err.old)) }
     ensures quiet { result ≡ Ok true → TellsChanges (given line.entry).0 (parts_in (given line.entry).1) ⊎ (err.new ≡ err.old) }
     ensures no { result ≡ Ok false → TellsRefusal (given line.entry).0 (parts_in (given line.entry).1) ⊎ (err.new ≡ err.old) }
-    ensures refused { result ≡ Err Refused → TellsRefusal (given line.entry).0 (parts_in (given line.entry).1) ⊎ (err.new ≡ err.old) }
+    ensures refused { ends_told result ≡ true → TellsRefusal (given line.entry).0 (parts_in (given line.entry).1) ⊎ (err.new ≡ err.old) }
 {
     let mut answer = ToWrite::new(Vec::new(alloc));
     let mut told = ToWrite::new(Vec::new(alloc));
@@ -265,10 +265,10 @@ fn json<'a, F: Files, I: Source, O: Sink, E: Sink>(
 ) -> Result<bool, Stop<'a>>
     ensures does { DoesObjects I.left I.failures O.held O.failures (F.folder files.old) input.old input.new out.old out.new
         (texts arguments.entry.now) result }
-    ensures stopped { OnErr result ((result ≡ Err Refused) ⊎ (err.new ≡ err.old)) }
+    ensures stopped { OnErr result ((ends_told result ≡ true) ⊎ (err.new ≡ err.old)) }
     ensures quiet { result ≡ Ok true → OfInner TellsChanges (texts arguments.entry.now) ⊎ (err.new ≡ err.old) }
     ensures no { result ≡ Ok false → OfInner TellsRefusal (texts arguments.entry.now) ⊎ (err.new ≡ err.old) }
-    ensures refused { result ≡ Err Refused → OfInner TellsRefusal (texts arguments.entry.now) ⊎ (err.new ≡ err.old) }
+    ensures refused { ends_told result ≡ true → OfInner TellsRefusal (texts arguments.entry.now) ⊎ (err.new ≡ err.old) }
 {
     match read_arguments(alloc, arguments) {
         Ok(line) => answer_in_objects(alloc, parts_of(arguments).one, line, files, input, out, err),
@@ -287,10 +287,10 @@ fn obey_line<'a, F: Files, I: Source, O: Sink, E: Sink>(
 ) -> Result<bool, Stop<'a>>
     ensures does { DoesAsked I.left I.failures O.held O.failures (F.folder files.old) input.old input.new out.old out.new
         (is_asked (given line.entry).0) (given line.entry) result }
-    ensures stopped { OnErr result ((result ≡ Err Refused) ⊎ (err.new ≡ err.old)) }
+    ensures stopped { OnErr result ((ends_told result ≡ true) ⊎ (err.new ≡ err.old)) }
     ensures quiet { result ≡ Ok true → AskedChanges (given line.entry) ⊎ (err.new ≡ err.old) }
     ensures no { result ≡ Ok false → AskedRefusal (given line.entry) ⊎ (err.new ≡ err.old) }
-    ensures refused { result ≡ Err Refused → AskedRefusal (given line.entry) ⊎ (err.new ≡ err.old) }
+    ensures refused { ends_told result ≡ true → AskedRefusal (given line.entry) ⊎ (err.new ≡ err.old) }
     ensures explained { ExplainsBy O.held O.failures E.held E.failures (F.folder files.old) out.old out.new err.old err.new
         (given line.entry).0 (parts_in (given line.entry).1) result }
 {
@@ -319,12 +319,12 @@ fn carry_out<'a, F: Files, I: Source, O: Sink, E: Sink>(
 ) -> Result<bool, Stop<'a>>
     ensures does { (command : Given) → IsCommandLine arguments.entry.now command
         → Does I.left I.failures O.held O.failures (F.folder files.old) input.old input.new out.old out.new command result }
-    ensures stopped { OnErr result ((result ≡ Err Refused) ⊎ (err.new ≡ err.old)) }
+    ensures stopped { OnErr result ((ends_told result ≡ true) ⊎ (err.new ≡ err.old)) }
     ensures quiet { (command : Given) → IsCommandLine arguments.entry.now command → result ≡ Ok true
         → AskedChanges command ⊎ (err.new ≡ err.old) }
     ensures no { (command : Given) → IsCommandLine arguments.entry.now command → result ≡ Ok false
         → AskedRefusal command ⊎ (err.new ≡ err.old) }
-    ensures refused { (command : Given) → IsCommandLine arguments.entry.now command → result ≡ Err Refused
+    ensures refused { (command : Given) → IsCommandLine arguments.entry.now command → ends_told result ≡ true
         → AskedRefusal command ⊎ (err.new ≡ err.old) }
     ensures explained { (command : Given) → IsCommandLine arguments.entry.now command
         → ExplainsWhy O.held O.failures E.held E.failures (F.folder files.old) out.old out.new err.old err.new command.0 (parts_in command.1) result }
@@ -340,7 +340,8 @@ fn carry_out<'a, F: Files, I: Source, O: Sink, E: Sink>(
 }
 
 /// Runs the program on the arguments after its name, and returns the exit status. It is 0 for done, 1 for no, and 2 for a fault of the
-/// command line. It is 3 if a file, a stream or memory failed. It is 4 if what was given cannot be read.
+/// command line. It is 3 if a file, a stream or memory failed. It is 4 if what was given cannot be read, and 5 if it was done and is
+/// doubtful.
 pub fn dispatch<F: Files, I: Source, O: Sink, E: Sink>(
     alloc: Global,
     arguments: &[&str],
@@ -349,7 +350,7 @@ pub fn dispatch<F: Files, I: Source, O: Sink, E: Sink>(
     out: &mut O,
     err: &mut E,
 ) -> u8
-    ensures status { result ≤ 4 }
+    ensures status { result ≤ 5 }
     // Arguments that are a command are carried out, on the bytes of the files that they name.
     ensures answers { (command : Given) → IsCommandLine arguments.entry.now command
         → Answers I.left I.failures O.held O.failures E.held E.failures (F.folder files.old) input.old input.new out.old out.new

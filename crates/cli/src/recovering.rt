@@ -9,6 +9,7 @@ ghost use Rattle.recover_others.specs.RecoveredOthers.{IsRecoveredOthers};
 ghost use Rattle.cli.specs.Recovered as spec;
 ghost use Rattle.cli.specs.Told.{of_one};
 ghost use Rattle.cli.specs.Written.{WritesMade};
+ghost use Rattle.wording.specs.Told.{was_done};
 ghost use Rattle.cli.specs.inner.Telling.{IsToldOf, told_in};
 
 use crate::adapting::Both;
@@ -21,7 +22,7 @@ use recover::{Unrecovered, Unsaid, line_of, recover};
 use recover_but::{RecoveredBut, recover_told};
 use recover_others::{Unallowed, recover_others};
 use std::alloc::{AllocError, Global};
-use wording::Told;
+use wording::{End, Told};
 
 // Whether one of the words is this.
 fn has_word(word: &str, words: &[&str]) -> bool
@@ -56,7 +57,7 @@ fn found(alloc: Global, bundle: String) -> Both
 {
     let told = Told {
         bytes: bundle.into_bytes(),
-        done: true,
+        end: End::Done,
     };
     Both {
         told,
@@ -72,7 +73,7 @@ fn found_but(made: RecoveredBut) -> Both
 {
     let told = Told {
         bytes: made.bundle.into_bytes(),
-        done: true,
+        end: End::Done,
     };
     Both {
         told,
@@ -92,26 +93,26 @@ fn found_others(alloc: Global, bundle: String) -> Result<Both, AllocError>
     let changes = String::from_str(alloc, OTHERS)?;
     let told = Told {
         bytes: bundle.into_bytes(),
-        done: true,
+        end: End::Done,
     };
     Ok(Both { told, changes })
 }
 
 // That none was found, and why.
 fn none(alloc: Global, changes: String) -> Both
-    ensures done { result.told.done ≡ false }
+    ensures done { was_done result.told.end ≡ false }
     ensures empty { result.told.bytes.items ≡ [] }
 {
     let told = Told {
         bytes: Vec::new(alloc),
-        done: false,
+        end: End::No,
     };
     Both { told, changes }
 }
 
 // Why none was found.
 fn untold(alloc: Global, native: Arch, unsaid: &Unsaid) -> Result<Both, AllocError>
-    ensures done { IfOk result (λ both. both.told.done ≡ false) }
+    ensures done { IfOk result (λ both. was_done both.told.end ≡ false) }
     ensures empty { IfOk result (λ both. both.told.bytes.items ≡ []) }
 {
     let changes = line_of(alloc, native, unsaid)?;
@@ -123,7 +124,7 @@ const DRAFT: &str = "ccell: this was written for it, and is not handed out as it
 
 // Why none was found, and what was drafted.
 fn undone(alloc: Global, native: Arch, why: &Unrecovered) -> Result<Both, AllocError>
-    ensures done { IfOk result (λ both. both.told.done ≡ false) }
+    ensures done { IfOk result (λ both. was_done both.told.end ≡ false) }
     ensures empty { IfOk result (λ both. both.told.bytes.items ≡ []) }
 {
     let mut changes = line_of(alloc, native, &why.unsaid)?;
@@ -162,7 +163,7 @@ fn bundle_but(
 
 // Why none was found where other calls are allowed.
 fn unallowed(alloc: Global, native: Arch, why: &Unallowed) -> Result<Both, AllocError>
-    ensures done { IfOk result (λ both. both.told.done ≡ false) }
+    ensures done { IfOk result (λ both. was_done both.told.end ≡ false) }
     ensures empty { IfOk result (λ both. both.told.bytes.items ≡ []) }
 {
     let changes = recover_others::line_of(alloc, native, why)?;
@@ -184,7 +185,7 @@ const ALONE: &str =
 
 // What tells that no words that leave calls out stand beside `others`.
 fn refused(alloc: Global) -> Result<Both, AllocError>
-    ensures done { IfOk result (λ both. both.told.done ≡ false) }
+    ensures done { IfOk result (λ both. was_done both.told.end ≡ false) }
     ensures empty { IfOk result (λ both. both.told.bytes.items ≡ []) }
 {
     let changes = String::from_str(alloc, ALONE)?;

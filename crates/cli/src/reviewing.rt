@@ -20,14 +20,14 @@ use page::{Side, page_of_one, page_of_two};
 use profile_json::Document;
 use std::alloc::{AllocError, Global};
 use texts::Sink;
-use wording::Told;
+use wording::{End, Told};
 
 // The graph of the filter that is exported.
 fn graph_of(alloc: Global, native: Arch, bundle: &[u8]) -> Result<Told, AllocError>
     ensures { IfOk result (spec.DrawsExport native bundle.now) }
 {
     let file = exported(alloc, native, bundle, Form::Raw)?;
-    if !file.done {
+    if !file.end.is_done() {
         return Ok(file);
     }
     let filter = read_as(alloc, native, &file.bytes)?;
@@ -42,7 +42,7 @@ fn side_of<'a>(name: &'a str, review: &'a Told, graph: &'a Told) -> Side<'a>
         name,
         review: &review.bytes,
         graph: &graph.bytes,
-        is_drawn: graph.done,
+        is_drawn: graph.end.is_done(),
     }
 }
 
@@ -57,7 +57,10 @@ fn page_of(
 {
     let graph = graph_of(alloc, document.native(), document.bytes())?;
     let bytes = page_of_one(alloc, &side_of(name, review, &graph))?;
-    Ok(Told { bytes, done: true })
+    Ok(Told {
+        bytes,
+        end: End::Done,
+    })
 }
 
 // The page of a bundle, or why it is refused.
@@ -65,7 +68,7 @@ fn page_text(alloc: Global, name: &str, document: &Document) -> Result<Told, All
     ensures { IfOk result (spec.TellsPage document.now.native name.now document.now.bytes) }
 {
     let review = review::review(alloc, document)?;
-    if !review.done {
+    if !review.end.is_done() {
         return Ok(review);
     }
     page_of(alloc, name, document, &review)
@@ -92,7 +95,10 @@ fn page_of_both(alloc: Global, old: &Reviewed<'_>, new: &Reviewed<'_>) -> Result
     let old_side = side_of(old.name, old.review, &old_graph);
     let new_side = side_of(new.name, new.review, &new_graph);
     let bytes = page_of_two(alloc, &old_side, &new_side, &compared.bytes)?;
-    Ok(Told { bytes, done: true })
+    Ok(Told {
+        bytes,
+        end: End::Done,
+    })
 }
 
 // The names of two files.
@@ -110,10 +116,10 @@ fn pages_text(
 {
     let first = review::review(alloc, old)?;
     let second = review::review(alloc, new)?;
-    if !first.done {
+    if !first.end.is_done() {
         return Ok(first);
     }
-    if !second.done {
+    if !second.end.is_done() {
         return Ok(second);
     }
     let old = Reviewed {

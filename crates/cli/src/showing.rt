@@ -19,7 +19,7 @@ use machines::Arch;
 use profile_json::Document;
 use rules_text::bundle_text;
 use std::alloc::{AllocError, Global};
-use wording::{Told, refused_profile};
+use wording::{End, Told, refused_profile};
 
 // What is shown of a filter: the lines of its listing, with what they mean, or behind `cost` what it costs the calls.
 fn shown_as(alloc: Global, native: Arch, filter: &[u8], word: &str) -> Result<Told, AllocError>
@@ -94,10 +94,10 @@ fn stopped_line(is: bool) -> &'static str
 fn with_hint(told: Told, hint: Hinted) -> Result<Told, AllocError>
     ensures { IfOk result (HasHint hint told) }
 {
-    let Told { mut bytes, done } = told;
+    let Told { mut bytes, end } = told;
     bytes.extend_from_slice(past_line(hint.past).as_bytes())?;
     bytes.extend_from_slice(stopped_line(hint.stopped).as_bytes())?;
-    Ok(Told { bytes, done })
+    Ok(Told { bytes, end })
 }
 
 // What was told. If the bundle is not refused, the lines of what `lint` has to report stand behind it.
@@ -106,7 +106,7 @@ fn hinted(alloc: Global, document: &Document, told: Told) -> Result<Told, AllocE
         → HasNames document.now.native document.now.bytes meaning told
         → IfOk result (TellsRead document.now.native document.now.bytes) }
 {
-    if !told.done {
+    if !told.end.is_done() {
         return Ok(told);
     }
     let hint = compare::lint::hint(alloc, document)?;
@@ -146,7 +146,7 @@ fn told_text(text: String) -> Told
 {
     Told {
         bytes: text.into_bytes(),
-        done: true,
+        end: End::Done,
     }
 }
 

@@ -26,19 +26,23 @@ pub enum Stop<'a> {
     OutOfMemory,
     /// What was given cannot be read. The answer says so, so no line is written.
     Refused,
+    /// It was done, and a name that was left out is near to a known one. The changes say so, so no line is written.
+    Doubtful,
 }
 
 impl Stop<'_> {
     ghost use Rattle.std.specs.Prelude.{◌≡◌};
     ghost use Rattle.cli.specs.Stop.{status_of};
 
-    /// The exit status: 2 for a fault of the command line, 4 if what was given cannot be read, 3 for any other.
+    /// The exit status: 2 for a fault of the command line, 4 if what was given cannot be read, 5 if what was done is doubtful, 3 for any
+    /// other.
     pub fn status(&self) -> u8
         ensures { result ≡ status_of self.now }
     {
         match self {
             Stop::Usage => 2,
             Stop::Refused => 4,
+            Stop::Doubtful => 5,
             _ => 3,
         }
     }
@@ -58,6 +62,7 @@ impl fmt::Display for Stop<'_> {
             Stop::Write(out) => write!(f, "ccell: write failed after {out} bytes"),
             Stop::OutOfMemory => write!(f, "ccell: out of memory"),
             Stop::Refused => write!(f, "ccell: refused"),
+            Stop::Doubtful => write!(f, "ccell: doubtful"),
         }
     }
 }
@@ -181,6 +186,7 @@ fn tell<E: Sink>(stop: &Stop<'_>, err: &mut E) -> Result<(), WriteFault>
         Stop::Write(out) => write_all(line_of_write(*out).as_slice(), err),
         Stop::OutOfMemory => write_all(b"ccell: out of memory\n", err),
         Stop::Refused => write_all(b"ccell: refused\n", err),
+        Stop::Doubtful => write_all(b"ccell: doubtful\n", err),
     }
 }
 

@@ -6,10 +6,9 @@ ghost use Rattle.compare.specs.FiltersTold.{IsTold};
 ghost use Rattle.explain.specs.Told.{IsAssembled, IsRecorded};
 ghost use Rattle.review.specs.Reviewed.{IsReviewed};
 ghost use Rattle.cli.specs.Compared.{TellsCompared};
-ghost use Rattle.cli.specs.Dispatch.{AnswersCompare, outcome_of as the_outcome};
+ghost use Rattle.cli.specs.Dispatch.{AnswersCompare, outcome_by as the_outcome};
 ghost use Rattle.cli.specs.Parts.{read as parts_read};
-ghost use Rattle.cli.specs.declared.stops.Stop.TheVariants.{Refused};
-ghost use Rattle.cli.specs.Refusal as refusal;
+ghost use Rattle.cli.specs.Stop.{ends_told};
 ghost use Rattle.cli.specs.Read.{TellsLinted};
 ghost use Rattle.cli.specs.Files.{Folder};
 ghost use Rattle.cli.specs.Told.{OfArguments, OfBundle, OfBundles, of_none, of_one, of_two};
@@ -26,32 +25,18 @@ use machines::Arch;
 use profile_json::Document;
 use std::alloc::{AllocError, Global};
 use texts::{Sink, write_all};
-use wording::Told;
+use wording::{End, Told};
 
-/// Whether what was given could not be read, as the first words of an answer say.
-pub(crate) fn is_refusal(bytes: &[u8]) -> bool
-    ensures { result ≡ refusal.is_refusal bytes.now }
+// How the program ends, by how the command does.
+fn outcome_by<'a>(end: End) -> Result<bool, Stop<'a>>
+    ensures { result ≡ the_outcome end }
 {
-    bytes.starts_with(b"refused profile ")
-        || bytes.starts_with(b"refused view ")
-        || bytes.starts_with(b"refused kernel ")
-        || bytes.starts_with(b"refused listing ")
-        || bytes.starts_with(b"refused call")
-        || bytes.starts_with(b"refused log ")
-        || bytes.starts_with(b"refused lines")
-}
-
-// How a command ends that told whether it was done.
-fn outcome_of<'a>(told: &Told) -> Result<bool, Stop<'a>>
-    ensures { result ≡ the_outcome told.now }
-{
-    if told.done {
-        return Ok(true);
+    match end {
+        End::Done => Ok(true),
+        End::Doubtful => Err(Stop::Doubtful),
+        End::No => Ok(false),
+        End::Refused => Err(Stop::Refused),
     }
-    if is_refusal(&told.bytes) {
-        return Err(Stop::Refused);
-    }
-    Ok(false)
 }
 
 /// Writes what is told.
@@ -60,7 +45,7 @@ pub(crate) fn tell<'a, O: Sink>(told: Result<Told, Stop<'a>>, out: &mut O) -> Re
 {
     match told {
         Ok(told) => match write_all(&told.bytes, out) {
-            Ok(()) => outcome_of(&told),
+            Ok(()) => outcome_by(told.end),
             Err(fault) => Err(Stop::from(fault)),
         },
         Err(stop) => Err(stop),
@@ -69,9 +54,9 @@ pub(crate) fn tell<'a, O: Sink>(told: Result<Told, Stop<'a>>, out: &mut O) -> Re
 
 // Whether an answer was written.
 fn is_told(outcome: &Result<bool, Stop<'_>>) -> bool
-    ensures { result ≡ true → OnErr outcome.now (outcome.now ≡ Err Refused) }
+    ensures { result ≡ true → OnErr outcome.now (ends_told outcome.now ≡ true) }
 {
-    matches!(outcome, Ok(_) | Err(Stop::Refused))
+    matches!(outcome, Ok(_) | Err(Stop::Refused) | Err(Stop::Doubtful))
 }
 
 /// Writes a bundle that was made, or why there is none, and tells on standard error what was changed or added.
@@ -81,7 +66,7 @@ pub(crate) fn tell_both<'a, O: Sink, E: Sink>(
     err: &mut E,
 ) -> Result<bool, Stop<'a>>
     ensures told { TellsOn O.held O.failures out.old out.new (told_in both.entry) result }
-    ensures stopped { OnErr result ((result ≡ Err Refused) ⊎ (err.new ≡ err.old)) }
+    ensures stopped { OnErr result ((ends_told result ≡ true) ⊎ (err.new ≡ err.old)) }
 {
     match both {
         Ok(Both { told, changes }) => {

@@ -60,7 +60,7 @@ fn both_of(alloc: Global, native: Arch, bundle: Vec<u8>, learned: Both) -> Resul
         → IfOk result (λ both. TellsWidened native file texts runtime otherwise both.told) }
 {
     let Both { told, mut changes } = learned;
-    if !told.done {
+    if !told.end.is_done() {
         return Ok(Both { told, changes });
     }
     let mut bundles = Vec::new(alloc);

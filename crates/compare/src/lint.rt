@@ -2,6 +2,7 @@
 //! kernel. For it compares bits of an argument that the kernel does not read.
 mod arguments;
 mod decided;
+mod flagged;
 mod hints;
 mod pairs;
 mod past;

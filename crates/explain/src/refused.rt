@@ -2,23 +2,23 @@
 ghost use Rattle.std.specs.Prelude.{◌≡◌, ◌++◌, [], ℕ, List, IfOk, codes, string_bytes};
 ghost use Rattle.machines.specs.Arch.{family_of};
 ghost use Rattle.call_words.specs.Wrong as wrong;
-ghost use Rattle.wording.specs.Told.{TellsLine};
+ghost use Rattle.wording.specs.Told.{RefusesBy};
 ghost use Rattle.explain.specs.Refused as spec;
 
 use crate::asked::are_bytes;
 use call_words::{put_wrong, put_wrong_call};
 use machines::{Arch, Family};
 use std::alloc::{AllocError, Global};
-use wording::Told;
+use wording::{End, Told};
 
-// A text as a line of a command that did nothing.
+// A text as the line of a refusal.
 fn told_line(mut text: String) -> Result<Told, AllocError>
-    ensures { IfOk result (TellsLine (string_bytes text)) }
+    ensures { IfOk result (RefusesBy (string_bytes text)) }
 {
     text.push_str("\n")?;
     Ok(Told {
         bytes: text.into_bytes(),
-        done: false,
+        end: End::Refused,
     })
 }
 

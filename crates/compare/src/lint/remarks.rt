@@ -1,4 +1,5 @@
 //! What else in a bundle says less than it seems to. None of it changes what is decided.
+use crate::lint::flagged::flags_beside;
 use crate::lint::pairs::put_pairs;
 use call_record::{Word, lets_through};
 use call_tables::call_name;
@@ -87,6 +88,23 @@ fn put_condition(text: &mut Text, entry: usize, place: usize, rule: &Rule, cond:
     ));
 }
 
+// Adds that a call with a flag beside the number of a condition is another one to it.
+fn put_flags(text: &mut Text, entry: usize, place: usize, rule: &Rule, cond: &Cond) {
+    if matches!(
+        reading_of(rule, cond),
+        Some(Reading::NotTaken | Reading::Pointer)
+    ) {
+        return;
+    }
+    let name = call_name(rule.arch, rule.nr).unwrap_or("a call");
+    if let Some(flags) = flags_beside(rule, name, cond) {
+        let condition = ConditionText(cond);
+        text.put(format_args!(
+            "remark: linux.seccomp.syscalls[{entry}].args[{place}]: {name} if {condition}: a call with flags of 0x{flags:x} gets past it\n"
+        ));
+    }
+}
+
 // Whether another rule before one is of the same entry and of the same name.
 fn is_again(all: &EntryRules, at: usize, rule: &Rule) -> bool {
     let Some(before) = at.checked_sub(1) else {
@@ -109,6 +127,7 @@ fn put_rule(text: &mut Text, all: &EntryRules, at: usize, rule: &Rule) {
     }
     for (place, cond) in rule.conds.as_slice().iter().enumerate() {
         put_condition(text, entry, place, rule, cond);
+        put_flags(text, entry, place, rule, cond);
     }
 }
 

@@ -1,12 +1,13 @@
-use Rattle.std.proofs.Common.{inl, inr, refl}
+use Rattle.std.proofs.Common.{◌∙◌, inl, inr, refl, sym}
 use Rattle.std.proofs.lemmas.Bool.{not-false, not-true}
+use Rattle.cli.proofs.DoubtLaws.{told_as_doubtful}
 use Rattle.cli.proofs.adapting.narrowed.Goals as goal
 
-pub returns-then-not-told : goal.returns-then-not-told
-returns-then-not-told c = λ choice is. record {
+pub returns-then-not-is_done : goal.returns-then-not-is_done
+returns-then-not-is_done c = λ choice is. record {
   made = c.args.made.told;
   is_made = is;
-  is_narrowed = inr (not-true c.args.made.told.done c.if-not-told.true, refl);
+  is_narrowed = inr (sym c.is_done.ensures ∙ not-true c.is_done.result c.if-not-is_done.true, refl);
 }
 
 pub returns : goal.returns
@@ -14,7 +15,8 @@ returns c = λ choice is. record {
   made = c.args.made.told;
   is_made = is;
   is_narrowed = inl (
-    not-false c.args.made.told.done c.if-not-told.false,
-    rw c.new-document.ensures.bytes at (rw c.new-document.ensures.native at c.in_ok-narrower.ensures),
+    sym c.is_done.ensures ∙ not-false c.is_done.result c.if-not-is_done.false,
+    told_as_doubtful c.args.native c.args.made.told.bytes.items c.in_ok-narrower.field-0.told c.as_doubtful.result c.as_doubtful.ensures.bytes
+        c.as_doubtful.ensures.done (rw c.new-document.ensures.bytes at (rw c.new-document.ensures.native at c.in_ok-narrower.ensures)),
   );
 }

@@ -13,7 +13,7 @@ returns-in-Ok-write_all g c =
         c.write_all.result,
         subst (λ (b : List ℕ). Writes g.O.Sink.held g.O.Sink.failures c.args.out.now c.write_all.new.sink b c.write_all.result) c.deref.ensures.value
             c.write_all.ensures,
-        sym (ap (ends_by (Ok c.in-Ok.told.done)) c.in-Ok-write_all.is),
+        sym (ap (ends_by (Ok (was_done c.in-Ok.told.end))) c.in-Ok-write_all.is),
       ),
     )
 
@@ -26,6 +26,6 @@ returns-in-Ok g c =
         c.write_all.result,
         subst (λ (b : List ℕ). Writes g.O.Sink.held g.O.Sink.failures c.args.out.now c.write_all.new.sink b c.write_all.result) c.deref.ensures.value
             c.write_all.ensures,
-        ap Err c.from.ensures ∙ sym (ap (ends_by (Ok c.in-Ok.told.done)) c.in-Err-write_all.is),
+        ap Err c.from.ensures ∙ sym (ap (ends_by (Ok (was_done c.in-Ok.told.end))) c.in-Err-write_all.is),
       ),
     )

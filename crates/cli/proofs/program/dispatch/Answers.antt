@@ -18,7 +18,7 @@ pub returns-in-Err-clause-answers : goal.returns-in-Err-clause-answers
 returns-in-Err-clause-answers g c command is =
     let ends = ends_stop g.E.Sink.held g.E.Sink.failures c.args.err.now c.carry_out.new.err c.status_on.new.err (texts c.args.arguments.now) command
     c.in-Err.stop c.in-Err.ensures.stopped (c.in-Err.ensures.refused command is) (λ e. c.status_on.ensures.remarks e command is)
-    c.status_on.ensures.lines in
+    c.status_on.ensures.quiet c.status_on.ensures.lines in
     record {
       outcome = Err c.in-Err.stop;
       does = c.in-Err.ensures.does command is;

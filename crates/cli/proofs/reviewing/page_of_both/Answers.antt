@@ -25,6 +25,6 @@ returns c = λ one_machine.
             ∙ ap (λ (side : Side). page_of_two side second told) c.side_of-old_side.ensures
             ∙ ap (λ (side : Side). page_of_two old_side side told) c.side_of-new_side.ensures
             ∙ ap (λ (text : List ℕ). page_of_two old_side new_side text) c.deref.ensures.value;
-        done = refl;
+        end = refl;
       };
     }

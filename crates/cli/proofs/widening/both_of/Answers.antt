@@ -13,4 +13,4 @@ returns c = λ file texts runtime otherwise taken learned.
     let both : c.deref.result.now ≡ c.args.learned.told.bytes ∷ c.args.bundle ∷ [] =
     c.deref.ensures.value ∙ c.in_ok-push-2.ensures.items ∙ ap (λ (t : List (Vec ℕ Global)). t ++ c.args.bundle ∷ []) one in
     widened_of c.args.native file c.args.bundle.items c.args.learned.told.bytes.items texts runtime otherwise (map bytes_of c.deref.result.now)
-    c.in_ok-both.both.told (ap (map bytes_of) both) taken (learned (is_done c.args.learned.told.done c.if-not-told.false)) c.in_ok-both.ensures
+    c.in_ok-both.both.told (ap (map bytes_of) both) taken (learned (sym c.is_done.ensures ∙ not-false c.is_done.result c.if-not-is_done.false)) c.in_ok-both.ensures
