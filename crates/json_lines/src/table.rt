@@ -116,6 +116,8 @@ refused_profile refused profile {number} {fault}
 not_read {member}: is not read
 twice {member}: stands twice, and the last one counts
 constant in {call} arg{argument} {number} is {name}
+several linux.seccomp.syscalls[{entry}]: {call} of {machine}: {arguments}
+several {call} of {machine}: {arguments}
 ";
 
 const RECORDS: &str = "record {action}, record {record}
@@ -150,6 +152,7 @@ refused_profile refused profile {number} {fault}
 refused_log refused log {log}: {why}
 refused_in_all {refused} of {records} records refused, {left} left to a tracer or a listener
 refused_in_all {refused} of {records} records refused
+not_read {log}: {lines} lines are not read
 partly_used partly used entry {entry}: {names}
 unused unused entry {entry}: {names}
 ";

@@ -1,5 +1,5 @@
 -- What is told of calls that are played through a profile.
-use Rattle.std.proofs.Common.{◌≡◌, ℕ, ◌+◌, Bool, true, false, List, [], ◌∷◌, ◌++◌, length, map, refl, sym, ap, subst, ◌∙◌, arith}
+use Rattle.std.proofs.Common.{◌≡◌, ℕ, ◌+◌, Bool, true, false, inl, inr, List, [], ◌∷◌, ◌++◌, length, map, refl, sym, ap, subst, ◌∙◌, arith}
 use Rattle.std.specs.Prelude.{◌↔◌, ◌==◌, Option, Some, None, IfSome, if◌then◌else◌}
 use Rattle.std.specs.List.{All, flat_map}
 use Rattle.std.specs.Option.{option_map}
@@ -23,6 +23,9 @@ use Rattle.strace_logs.specs.declared.refusals.RefusedCall.{RefusedCall}
 use Rattle.strace_logs.specs.Logged.{Logged, calls_from, calls_in, calls_of, first_none, told_on}
 use Rattle.wording.specs.Reason.{reason_of}
 use Rattle.wording.proofs.Ends.{ends_alike}
+use Rattle.wording.specs.Told.{EndsBy, end_if}
+use Rattle.wording.specs.declared.told.End.{End}
+use Rattle.strace_logs.specs.Unread.{are_read, unread_text}
 use Rattle.strace_logs.specs.Replayed.{LetsThrough, LineIsThrough, Refused, TextIsThrough, counts_text, firsts_behind, refusal_text, refused_in, replay_text, with_verdict}
 use Rattle.strace_logs.specs.inner.Played.{ArePlayed, IsPlayed}
 use Rattle.strace_logs.specs.inner.Views.{all_logged, all_refused, logged, refused}
@@ -135,20 +138,31 @@ texts_through native p (log ∷ logs) =
 
 -- ---- logs
 
+-- it is done only if a test holds
+ends_if : (P : Type 0) (b : Bool) (inner end : End) → EndsBy P inner → end ≡ end_if b inner → EndsBy (P × (b ≡ true)) end
+ends_if P true inner end (inl (e, h)) same = inl (same ∙ e, (h, refl))
+ends_if P true inner end (inr (e, none)) same = inr (same ∙ e, λ both. none both.0)
+ends_if P false inner end (inl (e, h)) same = inr (same ∙ ap (end_if false) e, λ both. let no : false ≡ true = both.1 in absurd (cc))
+ends_if P false inner end (inr (e, none)) same = inr (same ∙ ap (end_if false) e, λ both. none both.0)
+
 none_of : {A B : Type 0} → (f : A → B) (found : Option A) (o : Option B) → found ≡ None → option_map f found ≡ o → o ≡ None
 none_of f found o e h = sym h ∙ ap (option_map f) e
 
 pub logs_played : (native : Arch) (p : Policy) (rules : List Rule) (ends : List ℕ) (logs : List (List ℕ × List ℕ)) (unused : Bool)
-    (calls : List Logged) (told : Told) → first_none native logs ≡ None → calls ≡ calls_in native logs
-    → IsPlayed p rules ends unused calls told → ArePlayed native p rules ends logs unused told
-logs_played native p rules ends logs unused calls told none are played =
+    (calls : List Logged) (told new : Told) → first_none native logs ≡ None → calls ≡ calls_in native logs
+    → IsPlayed p rules ends unused calls told → new.bytes.items ≡ told.bytes.items ++ unread_text native logs
+    → new.end ≡ end_if (are_read native logs) told.end → ArePlayed native p rules ends logs unused new
+logs_played native p rules ends logs unused calls told new none are played bytes end =
     let through = texts_through native p logs in
+    let texts = map (λ (log : List ℕ × List ℕ). log.1) logs in
     record {
       are_logs = none;
-      tells = played.tells ∙ ap (replay_text p rules ends unused) are;
+      tells = bytes ∙ ap (λ (t : List ℕ). t ++ unread_text native logs) (played.tells ∙ ap (replay_text p rules ends unused) are);
       end_is =
-          ends_alike (All (Lets p) calls) (All (TextIsThrough native p) (map (λ (log : List ℕ × List ℕ). log.1) logs)) told.end (
+          ends_if (All (TextIsThrough native p) texts) (are_read native logs) told.end new.end
+          (ends_alike (All (Lets p) calls) (All (TextIsThrough native p) texts) told.end (
             λ all. through.0 (subst (All (Lets p)) are all),
             λ all. subst (All (Lets p)) (sym are) (through.1 all),
-          ) played.end_is;
+          ) played.end_is)
+          end;
     }

@@ -6,6 +6,7 @@ pub mod Kept
 pub mod Learned
 pub mod Logged
 pub mod Unused
+pub mod Unread
 pub mod Replayed
 pub mod inner
 pub mod Line

@@ -23,6 +23,7 @@ use Rattle.wording.specs.Told.{EndsBy, RefusesBundle, RefusesBy}
 use Rattle.strace_logs.specs.Line.{shown_in, words_of_call}
 use Rattle.wording.specs.Lines.{lines_of}
 use Rattle.strace_logs.specs.Logged.{Logged, calls_in, first_none}
+use Rattle.strace_logs.specs.Unread.{are_read, unread_text}
 use Rattle.strace_logs.specs.Unused.{unused_text}
 use Rattle.wording.specs.Understood.{IsReadAs}
 
@@ -141,15 +142,16 @@ pub record RefusesLog (native : Arch) (logs : List (List ℕ × List ℕ)) (told
   pub first : first_none native logs ≡ Some name
   pub tells : RefusesBy (codes "refused log " ++ name ++ codes ": it is no log of strace -f -n -e raw=all: no line tells a call, or one has an argument that is no number") told
 
--- The logs were played through the profile that the bundle means. It is done if each record is carried out, and no if one is not.
+-- The logs were played through the profile that the bundle means. It is done if each record is carried out and each line is read, and no
+-- otherwise.
 pub record Replays (native : Arch) (bundle : List ℕ) (logs : List (List ℕ × List ℕ)) (unused : Bool) (told : Told) : Type 0 where
   pub policy : Policy
   pub rules : List Rule
   pub ends : List ℕ
   pub read : IsReadAs native bundle policy rules ends
   pub are_logs : first_none native logs ≡ None
-  pub tells : told.bytes.items ≡ replay_text policy rules ends unused (calls_in native logs)
-  pub end_is : EndsBy (All (TextIsThrough native policy) (map (λ log. log.1) logs)) told.end
+  pub tells : told.bytes.items ≡ replay_text policy rules ends unused (calls_in native logs) ++ unread_text native logs
+  pub end_is : EndsBy (All (TextIsThrough native policy) (map (λ log. log.1) logs) × (are_read native logs ≡ true)) told.end
 
 -- The bundle is refused, or a file that is no log. Or the logs, each by its name and its text, were played through the bundle.
 abbrev pub TellsReplayed : Arch → Bool → List ℕ → List (List ℕ × List ℕ) → Told → Type 0

@@ -12,6 +12,7 @@ mod lists;
 mod logged;
 mod logs;
 mod names;
+mod passed_over;
 mod reading;
 mod reasons;
 mod refusals;

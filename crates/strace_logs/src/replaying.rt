@@ -12,6 +12,7 @@ ghost use Rattle.strace_logs.specs.inner.Views.{all_logged, all_refused};
 
 use crate::logged::{LogCall, put_logs};
 use crate::logs::Log;
+use crate::passed_over::with_unread;
 use crate::refusals::{RefusedCall, count_left, put_refusals, refused_in};
 use crate::unused::put_unused;
 use machines::Arch;
@@ -139,7 +140,10 @@ fn played(
     let mut calls = Vec::new(alloc);
     match put_logs(native, logs, &mut calls)? {
         Some(name) => no_log(alloc, name),
-        None => told_of(alloc, profile, all, &calls, tells_unused),
+        None => {
+            let told = told_of(alloc, profile, all, &calls, tells_unused)?;
+            with_unread(alloc, native, logs, told)
+        }
     }
 }
 
@@ -171,7 +175,8 @@ fn replayed(
 }
 
 /// Tells each call of logs that a bundle, which is read for a native machine, refuses. It tells the verdict, why, how often, and the line
-/// that shows it first. If it is asked for, it also tells what of the bundle no record matches. It is done just where nothing is refused.
+/// that shows it first. If it is asked for, it also tells what of the bundle no record matches. It is done if nothing is refused and each line
+/// is read.
 pub fn replay(
     alloc: Global,
     native: Arch,

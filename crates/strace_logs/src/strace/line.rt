@@ -2,6 +2,7 @@
 ghost use Rattle.std.specs.Prelude.{◌≡◌};
 ghost use Rattle.std.specs.Option.{option_map};
 ghost use Rattle.strace_logs.specs.Line as spec;
+ghost use Rattle.strace_logs.specs.Unread as unread;
 
 use crate::strace::arguments::{arguments, given};
 use crate::strace::call::Call;
@@ -88,23 +89,28 @@ pub fn call_in(native: Arch, line: &[u8]) -> Option<Call<'_>>
     }
 }
 
-// What strace writes behind the number of a line that tells no call: its end, a signal, an exit.
-const REMARKS: &[&str] = &[" <... ", " --- ", " +++ "];
-
-// Whether a text begins as one of these.
-fn begins_as_remark(text: &str) -> bool {
-    for mark in REMARKS {
-        if text.starts_with(*mark) {
-            return true;
-        }
+// Whether a text begins as what strace writes behind the number of a line that tells no call: the end of one, a signal, an exit.
+fn is_mark(text: &str) -> bool
+    ensures { result ≡ unread.is_mark text.now }
+{
+    if text.strip_prefix(" <... ").is_some() {
+        return true;
     }
-    false
+    if text.strip_prefix(" --- ").is_some() {
+        return true;
+    }
+    text.strip_prefix(" +++ ").is_some()
 }
 
-/// Whether a line tells no call, but the end of one, a signal or an exit; or is empty.
-pub fn is_remark(line: &str) -> bool {
+/// Whether a line tells no call, but the end of one, a signal or an exit; or is strace's own, or empty.
+pub fn is_remark(line: &str) -> bool
+    ensures { result ≡ unread.is_remark line.now }
+{
+    if line.strip_prefix("strace: ").is_some() {
+        return true;
+    }
     match split(line, ']') {
-        Some((_, text)) => begins_as_remark(text),
+        Some((_, text)) => is_mark(text),
         None => line.is_empty(),
     }
 }

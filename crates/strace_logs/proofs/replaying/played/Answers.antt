@@ -4,10 +4,13 @@ use Rattle.std.specs.Option.{option_map}
 use denote.Ref.{Bor}
 use Rattle.strace_logs.specs.Logged.{calls_in, first_none, parts_of}
 use Rattle.strace_logs.specs.declared.logged.LogCall.{LogCall}
-use Rattle.strace_logs.specs.inner.Played.{IsPlayed, Plays}
+use Rattle.strace_logs.specs.Unread.{are_read, unread_text}
+use Rattle.strace_logs.specs.inner.Played.{Plays}
 use Rattle.strace_logs.specs.inner.Views.{all_logged}
 use Rattle.strace_logs.proofs.PlayedLaws.{logs_played}
-use Rattle.wording.proofs.Results.{if_ok_weaker}
+use Rattle.wording.proofs.Results.{if_ok_both}
+use Rattle.wording.specs.Told.{end_if}
+use Rattle.wording.specs.declared.told.Told.{Told}
 use Rattle.strace_logs.proofs.replaying.played.Goals as goal
 
 pub returns : goal.returns
@@ -24,5 +27,8 @@ returns c =
     let are : calls ≡ calls_in native logs =
     ap all_logged c.deref.ensures.value ∙ c.in_ok-name.ensures.calls c.in-None.is
     ∙ ap (λ (l : List LogCall). all_logged l ++ calls_in native logs) c.new-calls.ensures.items in
-    if_ok_weaker (IsPlayed p rules ends unused calls) (Plays native p rules ends logs unused)
-    (λ told played. inr (logs_played native p rules ends logs unused calls told none are played)) c.told_of.result c.told_of.ensures
+    let told = c.in_ok-told.told in
+    if_ok_both (λ (new : Told). new.bytes.items ≡ told.bytes.items ++ unread_text native logs)
+    (λ (new : Told). new.end ≡ end_if (are_read native logs) told.end) (Plays native p rules ends logs unused)
+    (λ new bytes end. inr (logs_played native p rules ends logs unused calls told new none are c.in_ok-told.ensures bytes end))
+    c.with_unread.result c.with_unread.ensures.bytes c.with_unread.ensures.end
