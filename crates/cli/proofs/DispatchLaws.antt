@@ -29,7 +29,7 @@ use Rattle.cli.specs.Adapted.{AskNothing, IsMadeAs}
 use Rattle.cli.specs.Combined.{TellsCombined, TellsStack}
 use Rattle.cli.specs.Written.{WritesMade}
 use Rattle.cli.specs.Told.{IsManual, IsReplayed, OfArguments, OfEach, of_none, of_one, of_two}
-use Rattle.cli.specs.declared.adapting.Both.{Both}
+use Rattle.cli.specs.declared.adapting.OutputAndReport.{OutputAndReport}
 use Rattle.cli.specs.Dispatch.{WritesTold, outcome_by, outcome_of}
 use Rattle.texts.specs.Sink.{Wrote}
 use Rattle.cli.specs.Dispatch.{any_call, explained_as, ExplainsBehind, FirstUnread, HaveBytes, StopsAt}
@@ -287,7 +287,7 @@ module _ {O : Type 0} (held : O → Option (List ℕ)) (failures : O → Failure
   answers_manual name result told (inl is) h = inl (is.0, stopped_at result told is.1 h)
   answers_manual name result told (inr is) h = inr (answers_told held failures folder [] (of_none (IsManual name)) old new result told is h)
 
-  pub answers_adapted : (native : Arch) (config : List ℕ) (words : List (List ℕ)) (result : Result Bool Stop) (both : Result Both Stop)
+  pub answers_adapted : (native : Arch) (config : List ℕ) (words : List (List ℕ)) (result : Result Bool Stop) (both : Result OutputAndReport Stop)
       → IsAdaptedOf folder native config words (told_in both) → TellsOn held failures old new (told_in both) result
       → AnswersAdapt held failures folder old new native config words result
   answers_adapted native config words result both is h = (is.others, is.as_bundle, is.named, by (told_in both) is.grown is.made is.is_made is.grows is.written h) where
@@ -321,7 +321,7 @@ module _ {O : Type 0} (held : O → Option (List ℕ)) (failures : O → Failure
         (told_in_form native is.as_bundle folder (config ∷ []) (λ text. WithGroups native groups (Is text)) grown told
         (told_with_groups native groups folder (config ∷ []) Is made grown read grows.1) written) h))
 
-  pub answers_combined : (native : Arch) (way : Way) (words : List (List ℕ)) (result : Result Bool Stop) (both : Result Both Stop)
+  pub answers_combined : (native : Arch) (way : Way) (words : List (List ℕ)) (result : Result Bool Stop) (both : Result OutputAndReport Stop)
       → IsCombinedOf folder native way words (told_in both) → TellsOn held failures old new (told_in both) result
       → AnswersCombined held failures folder old new native way words result
   answers_combined native way words result both is h = (
@@ -332,7 +332,7 @@ module _ {O : Type 0} (held : O → Option (List ℕ)) (failures : O → Failure
         result (told_in both) is.is h,
   )
 
-  pub answers_stack : (native : Arch) (words : List (List ℕ)) (result : Result Bool Stop) (both : Result Both Stop)
+  pub answers_stack : (native : Arch) (words : List (List ℕ)) (result : Result Bool Stop) (both : Result OutputAndReport Stop)
       → IsStackOf folder native words (told_in both) → TellsOn held failures old new (told_in both) result
       → AnswersStack held failures folder old new native words result
   answers_stack native words result both is h = (

@@ -7,7 +7,7 @@ use Rattle.std.specs.Prelude.{Bool, true, false, Option, None, Some, Result, Ok,
 use Rattle.machines.specs.declared.arch.Arch.{Arch}
 use Rattle.wording.specs.declared.told.Told.{Told}
 use Rattle.texts.specs.Failures.{Failures}
-use Rattle.cli.specs.declared.adapting.Both.{Both}
+use Rattle.cli.specs.declared.adapting.OutputAndReport.{OutputAndReport}
 use denote.Ref.{Bor}
 use Rattle.strace_logs.specs.Given.{GivesAll}
 use Rattle.strace_logs.specs.Logged.{parts_of}
@@ -230,7 +230,7 @@ module _ {O : Type 0} (held : O → Option (List ℕ)) (failures : O → Failure
       answers_widened as_bundle groups from.0 from.1 made grown told is grows form h
   answers_from as_bundle groups None words made grown told is grows form h = answers_named as_bundle groups words made grown told is grows form h
 
-  pub answers_learned : (words : List (List ℕ)) (both : Result Both Stop) → IsLearnedOf folder native words (told_in both)
+  pub answers_learned : (words : List (List ℕ)) (both : Result OutputAndReport Stop) → IsLearnedOf folder native words (told_in both)
       → TellsOn held failures old new (told_in both) result → AnswersLearn held failures folder old new native words result
   answers_learned words both is h = (is.others, is.as_bundle, is.named, by is.grows) where
     by : IsWithGroups native (groups_in is.others) is.made is.grown

@@ -10,7 +10,7 @@ use Rattle.engines.specs.declared.settling.choice.Choice.{Choice}
 use Rattle.cli.specs.Adapted.{AsksNarrow, IsMadeBy, IsMadeOfDraft, IsNarrowedOne, KeepsText, is_narrow}
 use Rattle.section.specs.Sections.{KeepsMeaning}
 use Rattle.section.specs.Texts.{IsBundleText}
-use Rattle.cli.specs.declared.adapting.Both.{Both}
+use Rattle.cli.specs.declared.adapting.OutputAndReport.{OutputAndReport}
 use Rattle.wording.specs.Told.{was_done}
 use Rattle.wording.specs.declared.told.Told.{Told}
 
@@ -28,7 +28,7 @@ how_many words rest e =
     omega (arith, both, length-map rest now_of, length-map words now_of, ap length e)
 
 -- what is narrowed was made as the words ask
-pub made_narrow : (native : Arch) (choice : Option Choice) (words : List (Bor (List ℕ))) (result : Result Both AllocError) → AsksNarrow words
+pub made_narrow : (native : Arch) (choice : Option Choice) (words : List (Bor (List ℕ))) (result : Result OutputAndReport AllocError) → AsksNarrow words
     → IfOk result (λ both. IsNarrowedOne native choice both.told) → IfOk result (λ both. IsMadeBy native choice words both.told)
 made_narrow native choice words (Ok both) asks is = inl (asks, is)
 made_narrow native choice words (Err e) asks is = tt
@@ -45,12 +45,12 @@ made_none native choice words made told (inl (asks, is)) e =
 made_none native choice words made told (inr (others, is)) e = inr (others, nothing_made native choice told e)
 
 -- what was made is kept, or nothing is
-module _ (native : Arch) (made : Told) (result : Result Both AllocError) where
+module _ (native : Arch) (made : Told) (result : Result OutputAndReport AllocError) where
   pub made_unless : (choice : Option Choice) (words : List (Bor (List ℕ))) (is_like : Bool)
       → (is_like ≡ true → IfOk result (λ new. new.told ≡ made)) → (is_like ≡ false → IfOk result (λ new. was_done new.told.end ≡ false))
       → IsMadeBy native choice words made → IfOk result (λ new. IsMadeBy native choice words new.told)
   made_unless choice words is_like like unlike is = by result is_like like unlike where
-    by : (r : Result Both AllocError) (b : Bool) → (b ≡ true → IfOk r (λ new. new.told ≡ made))
+    by : (r : Result OutputAndReport AllocError) (b : Bool) → (b ≡ true → IfOk r (λ new. new.told ≡ made))
         → (b ≡ false → IfOk r (λ new. was_done new.told.end ≡ false)) → IfOk r (λ new. IsMadeBy native choice words new.told)
     by (Ok both) true same none = subst (λ t. IsMadeBy native choice words t) (sym (same refl)) is
     by (Ok both) false same none = made_none native choice words made both.told is (none refl)
@@ -61,7 +61,7 @@ module _ (native : Arch) (made : Told) (result : Result Both AllocError) where
       → (is_like ≡ false → IfOk result (λ new. was_done new.told.end ≡ false))
       → IfOk result (λ new. was_done new.told.end ≡ true → KeepsText native text new.told.bytes.items)
   kept_unless text bundle taken is_like keeps like unlike = by result is_like keeps like unlike where
-    by : (r : Result Both AllocError) (b : Bool) → (b ≡ true → KeepsMeaning native bundle made.bytes.items)
+    by : (r : Result OutputAndReport AllocError) (b : Bool) → (b ≡ true → KeepsMeaning native bundle made.bytes.items)
         → (b ≡ true → IfOk r (λ new. new.told ≡ made)) → (b ≡ false → IfOk r (λ new. was_done new.told.end ≡ false))
         → IfOk r (λ new. was_done new.told.end ≡ true → KeepsText native text new.told.bytes.items)
     by (Ok both) true keep same none = λ done. record {

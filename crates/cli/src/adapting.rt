@@ -23,7 +23,7 @@ use wording::{End, Told};
 
 /// What a command tells: on standard output, and on standard error.
 #[derive(Drop)]
-pub struct Both {
+pub struct OutputAndReport {
     pub told: Told,
     pub changes: String,
 }
@@ -71,7 +71,7 @@ pub(crate) fn as_doubtful(told: Told, made: End) -> Told
 }
 
 // The narrowed bundle of a bundle that was made, with the changes of both.
-fn narrowed(alloc: Global, native: Arch, made: Adapted) -> Result<Both, AllocError>
+fn narrowed(alloc: Global, native: Arch, made: Adapted) -> Result<OutputAndReport, AllocError>
     ensures { (choice : Option TheChoice) → IsMadeOfDraft native choice made.told → IfOk result (λ both. IsNarrowedOne native choice both.told) }
 {
     let Adapted {
@@ -80,7 +80,7 @@ fn narrowed(alloc: Global, native: Arch, made: Adapted) -> Result<Both, AllocErr
         mut changes,
     } = made;
     if !told.end.is_done() {
-        return Ok(Both { told, changes });
+        return Ok(OutputAndReport { told, changes });
     }
     let document = Document::new(alloc, told.bytes, native);
     let Narrowing {
@@ -88,7 +88,7 @@ fn narrowed(alloc: Global, native: Arch, made: Adapted) -> Result<Both, AllocErr
         changes: more,
     } = narrow(alloc, &document)?;
     changes.push_str(&more)?;
-    Ok(Both {
+    Ok(OutputAndReport {
         told: as_doubtful(narrower, told.end),
         changes,
     })
@@ -114,7 +114,7 @@ fn push_hint(changes: &mut String, hint: Hinted) -> Result<(), AllocError> {
 }
 
 // A bundle that was made, with its changes, and whether `lint` has a call to report.
-fn hinted(alloc: Global, native: Arch, made: Adapted) -> Result<Both, AllocError>
+fn hinted(alloc: Global, native: Arch, made: Adapted) -> Result<OutputAndReport, AllocError>
     ensures { IfOk result (λ both. both.told ≡ made.told) }
 {
     let Adapted {
@@ -127,7 +127,7 @@ fn hinted(alloc: Global, native: Arch, made: Adapted) -> Result<Both, AllocError
         let hint = compare::lint::hint(alloc, &Document::new(alloc, bytes, native))?;
         push_hint(&mut changes, hint)?;
     }
-    Ok(Both { told, changes })
+    Ok(OutputAndReport { told, changes })
 }
 
 // The bundle that is made of a configuration, or the narrowed one of it.
@@ -137,7 +137,7 @@ fn made_of(
     config: &[u8],
     wanted: &Wanted,
     words: &[&str],
-) -> Result<Both, AllocError>
+) -> Result<OutputAndReport, AllocError>
     ensures { IfOk result (λ both. IsMadeBy native wanted.now.choice words.now both.told) }
 {
     let made = adapt(alloc, native, config, wanted)?;
@@ -151,7 +151,11 @@ fn made_of(
 const UNLIKE: &str = "ccell: nothing is written: it would not mean what this file means\n";
 
 // What was made, or nothing.
-fn unless_unlike(alloc: Global, is_like: bool, both: Both) -> Result<Both, AllocError>
+fn unless_unlike(
+    alloc: Global,
+    is_like: bool,
+    both: OutputAndReport,
+) -> Result<OutputAndReport, AllocError>
     ensures like { is_like ≡ true → IfOk result (λ new. new.told ≡ both.told) }
     ensures unlike { is_like ≡ false → IfOk result (λ new. was_done new.told.end ≡ false) }
 {
@@ -163,11 +167,16 @@ fn unless_unlike(alloc: Global, is_like: bool, both: Both) -> Result<Both, Alloc
         end: End::No,
     };
     let changes = String::from_str(alloc, UNLIKE)?;
-    Ok(Both { told, changes })
+    Ok(OutputAndReport { told, changes })
 }
 
 // What was made of a text, if it means the profile that the text means, should it mean one.
-fn kept(alloc: Global, native: Arch, text: Vec<u8>, both: Both) -> Result<Both, AllocError>
+fn kept(
+    alloc: Global,
+    native: Arch,
+    text: Vec<u8>,
+    both: OutputAndReport,
+) -> Result<OutputAndReport, AllocError>
     ensures made { (choice : Option TheChoice) (words : List (Bor (List ℕ))) → IsMadeBy native choice words both.told
         → IfOk result (λ new. IsMadeBy native choice words new.told) }
     ensures kept { IfOk result (λ new. was_done new.told.end ≡ true → KeepsText native text.items new.told.bytes.items) }
@@ -187,7 +196,7 @@ fn made_as(
     text: Vec<u8>,
     wanted: &Wanted,
     words: &[&str],
-) -> Result<Both, AllocError>
+) -> Result<OutputAndReport, AllocError>
     ensures made { IfOk result (λ both. IsMadeBy native wanted.now.choice words.now both.told) }
     ensures kept { words.now ≡ [] → IfOk result (λ both. was_done both.told.end ≡ true → KeepsText native text.items both.told.bytes.items) }
 {
@@ -206,7 +215,7 @@ fn made_of_file<'a, F: Files>(
     wanted: &Wanted,
     words: &[&str],
     files: &mut F,
-) -> Result<Both, Stop<'a>>
+) -> Result<OutputAndReport, Stop<'a>>
     requires { AskToAdapt (map (λ w. w.now) words.now) wanted.now }
     ensures { IsToldOf (F.folder files.old) (config.entry.now ∷ []) (of_one (λ text. OfArguments (IsMadeAs native text) (map (λ w. w.now) words.now))) (told_in result) }
 {
@@ -226,7 +235,7 @@ fn bundle_of<'a, F: Files>(
     config: &'a str,
     words: &[&str],
     files: &mut F,
-) -> Result<Both, Stop<'a>>
+) -> Result<OutputAndReport, Stop<'a>>
     ensures { IsBundleOf (F.folder files.old) native config.entry.now (map (λ w. w.now) words.now) (told_in result) }
 {
     match wanted(alloc, words) {
@@ -243,7 +252,7 @@ fn grown_of<'a, F: Files>(
     config: &'a str,
     words: &[&str],
     files: &mut F,
-) -> Result<Both, Stop<'a>>
+) -> Result<OutputAndReport, Stop<'a>>
     ensures { IsGrownBundleOf (F.folder files.old) native config.entry.now (map (λ w. w.now) words.now) (told_in result) }
 {
     match part_words(alloc, words) {
@@ -262,7 +271,7 @@ pub fn adapted<'a, F: Files>(
     config: &'a str,
     words: &[&str],
     files: &mut F,
-) -> Result<Both, Stop<'a>>
+) -> Result<OutputAndReport, Stop<'a>>
     ensures { IsAdaptedOf (F.folder files.old) native config.entry.now (map (λ w. w.now) words.now) (told_in result) }
 {
     let (others, as_bundle) = form_in(words);

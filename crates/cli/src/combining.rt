@@ -10,7 +10,7 @@ ghost use Rattle.cli.specs.Told.{OfEach};
 ghost use Rattle.wording.specs.Told.{was_done};
 ghost use Rattle.cli.specs.inner.Telling.{IsCombinedOf, IsStackOf, IsToldOf, told_in};
 
-use crate::adapting::Both;
+use crate::adapting::OutputAndReport;
 use crate::files::{Files, read_bundles, read_each};
 use crate::forms::{form_in, in_form};
 use crate::stops::Stop;
@@ -22,7 +22,7 @@ use together::Way;
 use wording::{End, Told};
 
 // A bundle that was made.
-fn found(alloc: Global, bundle: String) -> Both
+fn found(alloc: Global, bundle: String) -> OutputAndReport
     ensures combined { (native : TheArch) (way : TheWay) (bundles : List (List ℕ)) → IsCombined native way bundles (string_bytes bundle)
         → TellsCombined native way bundles result.told }
     ensures stack { (native : TheArch) (filters : List (List ℕ)) → IsOfStack native filters (string_bytes bundle)
@@ -32,26 +32,26 @@ fn found(alloc: Global, bundle: String) -> Both
         bytes: bundle.into_bytes(),
         end: End::Done,
     };
-    Both {
+    OutputAndReport {
         told,
         changes: String::new(alloc),
     }
 }
 
 // Why none was made: what is refused on standard output, as other commands have it.
-fn untold(alloc: Global, native: Arch, why: &Uncombined) -> Result<Both, AllocError>
+fn untold(alloc: Global, native: Arch, why: &Uncombined) -> Result<OutputAndReport, AllocError>
     ensures { IfOk result (λ both. was_done both.told.end ≡ false) }
 {
     let line = line_of(alloc, native, why)?;
     match why {
-        Uncombined::Refused(_, _) => Ok(Both {
+        Uncombined::Refused(_, _) => Ok(OutputAndReport {
             told: Told {
                 bytes: line.into_bytes(),
                 end: End::Refused,
             },
             changes: String::new(alloc),
         }),
-        _ => Ok(Both {
+        _ => Ok(OutputAndReport {
             told: Told {
                 bytes: Vec::new(alloc),
                 end: End::No,
@@ -67,7 +67,7 @@ pub(crate) fn combined_of(
     native: Arch,
     way: Way,
     bundles: &[Vec<u8>],
-) -> Result<Both, AllocError>
+) -> Result<OutputAndReport, AllocError>
     ensures { IfOk result (λ both. TellsCombined native way (map (λ b. b.items) bundles.now) both.told) }
 {
     match combine(alloc, native, way, bundles) {
@@ -77,7 +77,7 @@ pub(crate) fn combined_of(
 }
 
 // What filters mean together.
-fn stack_of(alloc: Global, native: Arch, files: &[Vec<u8>]) -> Result<Both, AllocError>
+fn stack_of(alloc: Global, native: Arch, files: &[Vec<u8>]) -> Result<OutputAndReport, AllocError>
     ensures { IfOk result (λ both. TellsStack native (map (read_as native) (map (λ f. f.items) files.now)) both.told) }
 {
     let filters = each_read_as(alloc, native, files)?;
@@ -94,7 +94,7 @@ fn combined_of_files<'a, F: Files>(
     way: Way,
     bundles: &'a [&'a str],
     files: &mut F,
-) -> Result<Both, Stop<'a>>
+) -> Result<OutputAndReport, Stop<'a>>
     ensures { IsToldOf (F.folder files.old) (map (λ b. b.now) bundles.entry.now) (OfEach native (TellsCombined native way)) (told_in result) }
 {
     match read_bundles(alloc, native, files, bundles) {
@@ -112,7 +112,7 @@ fn stack_of_files<'a, F: Files>(
     native: Arch,
     filters: &'a [&'a str],
     files: &mut F,
-) -> Result<Both, Stop<'a>>
+) -> Result<OutputAndReport, Stop<'a>>
     ensures { IsToldOf (F.folder files.old) (map (λ f. f.now) filters.entry.now)
         (λ texts. TellsStack native (map (read_as native) texts)) (told_in result) }
 {
@@ -132,7 +132,7 @@ pub(crate) fn combined<'a, F: Files>(
     way: Way,
     words: &'a [&'a str],
     files: &mut F,
-) -> Result<Both, Stop<'a>>
+) -> Result<OutputAndReport, Stop<'a>>
     ensures { IsCombinedOf (F.folder files.old) native way (map (λ w. w.now) words.entry.now) (told_in result) }
 {
     let (bundles, as_bundle) = form_in(words);
@@ -146,7 +146,7 @@ pub(crate) fn stacked<'a, F: Files>(
     native: Arch,
     words: &'a [&'a str],
     files: &mut F,
-) -> Result<Both, Stop<'a>>
+) -> Result<OutputAndReport, Stop<'a>>
     ensures { IsStackOf (F.folder files.old) native (map (λ w. w.now) words.entry.now) (told_in result) }
 {
     let (filters, as_bundle) = form_in(words);

@@ -6,7 +6,7 @@ ghost use Rattle.cli.specs.Written.{IsEmptyUnlessDone, IsItsSection, IsWritten, 
 ghost use Rattle.cli.specs.inner.Telling.{IsInForm, told_in};
 ghost use Rattle.wording.specs.Told.{was_done};
 
-use crate::adapting::{Both, as_doubtful};
+use crate::adapting::{OutputAndReport, as_doubtful};
 use crate::stops::Stop;
 use machines::{Arch, Family};
 use section::section_of;
@@ -73,22 +73,30 @@ fn its_section(
 }
 
 // The section of what was made, if it was.
-fn as_section(alloc: Global, native: Arch, both: Both) -> Result<Both, AllocError>
+fn as_section(
+    alloc: Global,
+    native: Arch,
+    both: OutputAndReport,
+) -> Result<OutputAndReport, AllocError>
     ensures { IfOk result (λ new. IsItsSection native both.told new.told) }
 {
-    let Both { told, mut changes } = both;
+    let OutputAndReport { told, mut changes } = both;
     if !told.end.is_done() {
-        return Ok(Both { told, changes });
+        return Ok(OutputAndReport { told, changes });
     }
     let section = its_section(alloc, native, &told.bytes, &mut changes)?;
-    Ok(Both {
+    Ok(OutputAndReport {
         told: as_doubtful(section, told.end),
         changes,
     })
 }
 
 // The section, where sections are read.
-fn as_engines_take(alloc: Global, native: Arch, both: Both) -> Result<Both, AllocError>
+fn as_engines_take(
+    alloc: Global,
+    native: Arch,
+    both: OutputAndReport,
+) -> Result<OutputAndReport, AllocError>
     ensures { IfOk result (λ new. IsWrittenFor (family_of native) native both.told new.told) }
 {
     match native.family() {
@@ -98,7 +106,12 @@ fn as_engines_take(alloc: Global, native: Arch, both: Both) -> Result<Both, Allo
 }
 
 // What was made, in the form that is asked for.
-fn formed(alloc: Global, native: Arch, as_bundle: bool, both: Both) -> Result<Both, AllocError>
+fn formed(
+    alloc: Global,
+    native: Arch,
+    as_bundle: bool,
+    both: OutputAndReport,
+) -> Result<OutputAndReport, AllocError>
     ensures { IfOk result (λ new. IsWritten native as_bundle both.told new.told) }
 {
     if as_bundle {
@@ -112,8 +125,8 @@ pub(crate) fn in_form<'a>(
     alloc: Global,
     native: Arch,
     as_bundle: bool,
-    made: Result<Both, Stop<'a>>,
-) -> Result<Both, Stop<'a>>
+    made: Result<OutputAndReport, Stop<'a>>,
+) -> Result<OutputAndReport, Stop<'a>>
     ensures { IsInForm native as_bundle (told_in made.entry) (told_in result) }
 {
     match made {

@@ -4,7 +4,7 @@ ghost use Rattle.cli.specs.Grouped as spec;
 ghost use Rattle.cli.specs.Grouped.{IsGrown};
 ghost use Rattle.cli.specs.inner.Telling.{IsWithGroups, GrowsTold, told_in};
 
-use crate::adapting::{Both, as_doubtful};
+use crate::adapting::{OutputAndReport, as_doubtful};
 use crate::stops::Stop;
 use allow_groups::{Grown, allow_groups};
 use call_groups::{is_group, is_known};
@@ -67,23 +67,33 @@ fn are_known(alloc: Global, groups: &[&str]) -> Result<bool, AllocError>
 }
 
 // What was made with the calls of groups, if it was made.
-fn grown(alloc: Global, native: Arch, groups: &[&str], both: Both) -> Result<Both, AllocError>
+fn grown(
+    alloc: Global,
+    native: Arch,
+    groups: &[&str],
+    both: OutputAndReport,
+) -> Result<OutputAndReport, AllocError>
     ensures { IfOk result (λ new. IsGrown native (map (λ g. g.now) groups.now) both.told new.told) }
 {
-    let Both { told, mut changes } = both;
+    let OutputAndReport { told, mut changes } = both;
     if !told.end.is_done() {
-        return Ok(Both { told, changes });
+        return Ok(OutputAndReport { told, changes });
     }
     let Grown { told: new, lines } = allow_groups(alloc, native, &told.bytes, groups)?;
     changes.push_str(&lines)?;
-    Ok(Both {
+    Ok(OutputAndReport {
         told: as_doubtful(new, told.end),
         changes,
     })
 }
 
 // What was made, with the calls of groups if any are named.
-fn grown_if(alloc: Global, native: Arch, groups: &[&str], both: Both) -> Result<Both, AllocError>
+fn grown_if(
+    alloc: Global,
+    native: Arch,
+    groups: &[&str],
+    both: OutputAndReport,
+) -> Result<OutputAndReport, AllocError>
     ensures { IfOk result (λ new. IsGrown native (map (λ g. g.now) groups.now) both.told new.told) }
 {
     match groups {
@@ -97,8 +107,8 @@ fn grown_unless<'a>(
     alloc: Global,
     native: Arch,
     groups: &[&str],
-    made: Result<Both, Stop<'a>>,
-) -> Result<Both, Stop<'a>>
+    made: Result<OutputAndReport, Stop<'a>>,
+) -> Result<OutputAndReport, Stop<'a>>
     ensures { GrowsTold native (map (λ g. g.now) groups.now) (told_in made.entry) (told_in result) }
 {
     match made {
@@ -115,8 +125,8 @@ pub(crate) fn with_groups<'a>(
     alloc: Global,
     native: Arch,
     groups: &[&str],
-    made: Result<Both, Stop<'a>>,
-) -> Result<Both, Stop<'a>>
+    made: Result<OutputAndReport, Stop<'a>>,
+) -> Result<OutputAndReport, Stop<'a>>
     ensures { IsWithGroups native (map (λ g. g.now) groups.now) (told_in made.entry) (told_in result) }
 {
     match are_known(alloc, groups) {

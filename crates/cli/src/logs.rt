@@ -10,7 +10,7 @@ ghost use Rattle.cli.specs.Told.{IsReplayed, NamesLogs};
 ghost use Rattle.cli.specs.Widened.{from_in as profile_in};
 ghost use Rattle.cli.specs.inner.Telling.{IsGrownLearnedOf, IsLearnedBundleOf, IsLearnedBy, IsLearnedFrom, IsLearnedOf, IsReplayOf, IsToldOf, ShowEach, ShowsMore, StopsAtName, told_in};
 
-use crate::adapting::Both;
+use crate::adapting::OutputAndReport;
 use crate::fault::FileFault;
 use crate::files::{Files, read_bundle, read_each};
 use crate::forms::{form_in, in_form};
@@ -105,13 +105,13 @@ pub(crate) fn learned_of<'a, F: Files>(
     native: Arch,
     wish: &Wish<'a>,
     files: &mut F,
-) -> Result<Both, Stop<'a>>
+) -> Result<OutputAndReport, Stop<'a>>
     ensures { IsLearnedFrom (F.folder files.old) native (map (λ log. log.now) wish.now.logs.items) wish.now.runtime wish.now.otherwise
         (told_in result) }
 {
     match show_each(alloc, native, &wish.keeps, &wish.logs, files) {
         Ok(shown) => match learn(alloc, native, &shown, wish) {
-            Ok(Learned { told, lines }) => Ok(Both {
+            Ok(Learned { told, lines }) => Ok(OutputAndReport {
                 told,
                 changes: lines,
             }),
@@ -127,7 +127,7 @@ fn bundle_of<'a, F: Files>(
     native: Arch,
     words: &[&'a str],
     files: &mut F,
-) -> Result<Both, Stop<'a>>
+) -> Result<OutputAndReport, Stop<'a>>
     ensures { IsLearnedBundleOf (F.folder files.old) native (map (λ w. w.now) words.now) (told_in result) }
 {
     match wish_of(alloc, native, words) {
@@ -143,7 +143,7 @@ fn learned_by<'a, F: Files>(
     native: Arch,
     words: &[&'a str],
     files: &mut F,
-) -> Result<Both, Stop<'a>>
+) -> Result<OutputAndReport, Stop<'a>>
     ensures { IsLearnedBy (F.folder files.old) native (profile_in (map (λ w. w.now) words.now)) (map (λ w. w.now) words.now) (told_in result) }
 {
     match from_in(words) {
@@ -158,7 +158,7 @@ fn grown_of<'a, F: Files>(
     native: Arch,
     words: &[&'a str],
     files: &mut F,
-) -> Result<Both, Stop<'a>>
+) -> Result<OutputAndReport, Stop<'a>>
     ensures { IsGrownLearnedOf (F.folder files.old) native (map (λ w. w.now) words.now) (told_in result) }
 {
     match part_words(alloc, words) {
@@ -176,7 +176,7 @@ pub fn learned<'a, F: Files>(
     native: Arch,
     words: &'a [&'a str],
     files: &mut F,
-) -> Result<Both, Stop<'a>>
+) -> Result<OutputAndReport, Stop<'a>>
     ensures { IsLearnedOf (F.folder files.old) native (map (λ w. w.now) words.entry.now) (told_in result) }
 {
     let (others, as_bundle) = form_in(words);

@@ -12,7 +12,7 @@ ghost use Rattle.cli.specs.Written.{WritesMade};
 ghost use Rattle.wording.specs.Told.{was_done};
 ghost use Rattle.cli.specs.inner.Telling.{IsToldOf, told_in};
 
-use crate::adapting::Both;
+use crate::adapting::OutputAndReport;
 use crate::files::{Files, read_filter};
 use crate::forms::in_form;
 use crate::stops::Stop;
@@ -52,21 +52,21 @@ fn leaves_out(words: &[&str]) -> bool
 }
 
 // A bundle that was found.
-fn found(alloc: Global, bundle: String) -> Both
+fn found(alloc: Global, bundle: String) -> OutputAndReport
     ensures { (native : TheArch) (filter : List ℕ) → IsRecovered native (string_bytes bundle) filter → spec.TellsRecovered native filter result.told }
 {
     let told = Told {
         bytes: bundle.into_bytes(),
         end: End::Done,
     };
-    Both {
+    OutputAndReport {
         told,
         changes: String::new(alloc),
     }
 }
 
 // A bundle that was found but for calls.
-fn found_but(made: RecoveredBut) -> Both
+fn found_but(made: RecoveredBut) -> OutputAndReport
     ensures { (native : TheArch) (filter : List ℕ) (runc : Bool) (leave : TheLeave)
         → IsToldBut native filter runc leave (string_bytes made.bundle) (string_bytes made.lines)
         → spec.TellsRecoveredBut native runc leave filter result.told }
@@ -75,7 +75,7 @@ fn found_but(made: RecoveredBut) -> Both
         bytes: made.bundle.into_bytes(),
         end: End::Done,
     };
-    Both {
+    OutputAndReport {
         told,
         changes: made.lines,
     }
@@ -86,7 +86,7 @@ const OTHERS: &str =
     "ccell: x-ccell-otherMachines: calls of other machines are allowed, as this filter has it; no engine reads this member\n";
 
 // A bundle that was found where other calls are allowed.
-fn found_others(alloc: Global, bundle: String) -> Result<Both, AllocError>
+fn found_others(alloc: Global, bundle: String) -> Result<OutputAndReport, AllocError>
     ensures { (native : TheArch) (filter : List ℕ) → IsRecoveredOthers native (string_bytes bundle) filter
         → IfOk result (λ both. spec.TellsRecoveredOthers native filter both.told) }
 {
@@ -95,11 +95,11 @@ fn found_others(alloc: Global, bundle: String) -> Result<Both, AllocError>
         bytes: bundle.into_bytes(),
         end: End::Done,
     };
-    Ok(Both { told, changes })
+    Ok(OutputAndReport { told, changes })
 }
 
 // That none was found, and why.
-fn none(alloc: Global, changes: String) -> Both
+fn none(alloc: Global, changes: String) -> OutputAndReport
     ensures done { was_done result.told.end ≡ false }
     ensures empty { result.told.bytes.items ≡ [] }
 {
@@ -107,11 +107,11 @@ fn none(alloc: Global, changes: String) -> Both
         bytes: Vec::new(alloc),
         end: End::No,
     };
-    Both { told, changes }
+    OutputAndReport { told, changes }
 }
 
 // Why none was found.
-fn untold(alloc: Global, native: Arch, unsaid: &Unsaid) -> Result<Both, AllocError>
+fn untold(alloc: Global, native: Arch, unsaid: &Unsaid) -> Result<OutputAndReport, AllocError>
     ensures done { IfOk result (λ both. was_done both.told.end ≡ false) }
     ensures empty { IfOk result (λ both. both.told.bytes.items ≡ []) }
 {
@@ -123,7 +123,7 @@ fn untold(alloc: Global, native: Arch, unsaid: &Unsaid) -> Result<Both, AllocErr
 const DRAFT: &str = "ccell: this was written for it, and is not handed out as its profile:\n";
 
 // Why none was found, and what was drafted.
-fn undone(alloc: Global, native: Arch, why: &Unrecovered) -> Result<Both, AllocError>
+fn undone(alloc: Global, native: Arch, why: &Unrecovered) -> Result<OutputAndReport, AllocError>
     ensures done { IfOk result (λ both. was_done both.told.end ≡ false) }
     ensures empty { IfOk result (λ both. both.told.bytes.items ≡ []) }
 {
@@ -136,7 +136,7 @@ fn undone(alloc: Global, native: Arch, why: &Unrecovered) -> Result<Both, AllocE
 }
 
 // The bundle that means what a filter does, or why none was found.
-fn bundle_of(alloc: Global, native: Arch, filter: &[u8]) -> Result<Both, AllocError>
+fn bundle_of(alloc: Global, native: Arch, filter: &[u8]) -> Result<OutputAndReport, AllocError>
     ensures { IfOk result (λ both. spec.TellsRecovered native filter.now both.told) }
 {
     match recover(alloc, native, filter) {
@@ -152,7 +152,7 @@ fn bundle_but(
     runc: bool,
     leave: Leave,
     filter: &[u8],
-) -> Result<Both, AllocError>
+) -> Result<OutputAndReport, AllocError>
     ensures { IfOk result (λ both. spec.TellsRecoveredBut native runc leave filter.now both.told) }
 {
     match recover_told(alloc, native, filter, runc, leave) {
@@ -162,7 +162,7 @@ fn bundle_but(
 }
 
 // Why none was found where other calls are allowed.
-fn unallowed(alloc: Global, native: Arch, why: &Unallowed) -> Result<Both, AllocError>
+fn unallowed(alloc: Global, native: Arch, why: &Unallowed) -> Result<OutputAndReport, AllocError>
     ensures done { IfOk result (λ both. was_done both.told.end ≡ false) }
     ensures empty { IfOk result (λ both. both.told.bytes.items ≡ []) }
 {
@@ -171,7 +171,7 @@ fn unallowed(alloc: Global, native: Arch, why: &Unallowed) -> Result<Both, Alloc
 }
 
 // The bundle of a filter that allows other calls, or why none was found.
-fn bundle_others(alloc: Global, native: Arch, filter: &[u8]) -> Result<Both, AllocError>
+fn bundle_others(alloc: Global, native: Arch, filter: &[u8]) -> Result<OutputAndReport, AllocError>
     ensures { IfOk result (λ both. spec.TellsRecoveredOthers native filter.now both.told) }
 {
     match recover_others(alloc, native, filter) {
@@ -184,7 +184,7 @@ const ALONE: &str =
     "no section was found: others leaves no calls out, and stands beside none of runc, calls and without-x32\n";
 
 // What tells that no words that leave calls out stand beside `others`.
-fn refused(alloc: Global) -> Result<Both, AllocError>
+fn refused(alloc: Global) -> Result<OutputAndReport, AllocError>
     ensures done { IfOk result (λ both. was_done both.told.end ≡ false) }
     ensures empty { IfOk result (λ both. both.told.bytes.items ≡ []) }
 {
@@ -198,7 +198,7 @@ fn bundle_others_if(
     native: Arch,
     words: &[&str],
     filter: &[u8],
-) -> Result<Both, AllocError>
+) -> Result<OutputAndReport, AllocError>
     ensures { IfOk result (λ both. spec.TellsRecoveredOthers native filter.now both.told) }
 {
     if leaves_out(words) {
@@ -213,7 +213,7 @@ fn bundle_left(
     native: Arch,
     words: &[&str],
     filter: &[u8],
-) -> Result<Both, AllocError>
+) -> Result<OutputAndReport, AllocError>
     ensures { IfOk result (λ both. spec.TellsBy (spec.leaves_out (map (λ w. w.now) words.now)) native (map (λ w. w.now) words.now) filter.now
         both.told) }
 {
@@ -230,7 +230,12 @@ fn bundle_left(
 }
 
 // The bundle for which the words ask, or why none was found.
-fn bundle_by(alloc: Global, native: Arch, words: &[&str], filter: &[u8]) -> Result<Both, AllocError>
+fn bundle_by(
+    alloc: Global,
+    native: Arch,
+    words: &[&str],
+    filter: &[u8],
+) -> Result<OutputAndReport, AllocError>
     ensures { IfOk result (λ both. spec.TellsAsked native (map (λ w. w.now) words.now) filter.now both.told) }
 {
     if has_word("others", words) {
@@ -246,7 +251,7 @@ fn bundle_of_file<'a, F: Files>(
     words: &[&str],
     filter: &'a str,
     files: &mut F,
-) -> Result<Both, Stop<'a>>
+) -> Result<OutputAndReport, Stop<'a>>
     ensures { IsToldOf (F.folder files.old) (filter.entry.now ∷ []) (of_one (λ file. spec.TellsAsked native (map (λ w. w.now) words.now) (read_as native file))) (told_in result) }
 {
     match read_filter(alloc, native, files, filter) {
@@ -265,7 +270,7 @@ pub(crate) fn recovered<'a, F: Files>(
     words: &[&str],
     filter: &'a str,
     files: &mut F,
-) -> Result<Both, Stop<'a>>
+) -> Result<OutputAndReport, Stop<'a>>
     ensures { IsToldOf (F.folder files.old) (filter.entry.now ∷ [])
         (of_one (λ file. WritesMade native (spec.has_word (codes "bundle") (map (λ w. w.now) words.now))
         (spec.TellsAsked native (map (λ w. w.now) words.now) (read_as native file)))) (told_in result) }

@@ -14,7 +14,7 @@ ghost use Rattle.cli.specs.Files.{Folder};
 ghost use Rattle.cli.specs.Told.{OfArguments, OfBundle, OfBundles, of_none, of_one, of_two};
 ghost use Rattle.cli.specs.inner.Telling.{IsToldOf, TellsOn, told_in};
 
-use crate::adapting::Both;
+use crate::adapting::OutputAndReport;
 use crate::beside::compared_beside;
 use crate::files::{Files, read, read_document};
 use crate::naming::with_names;
@@ -61,7 +61,7 @@ fn is_told(outcome: &Result<bool, Stop<'_>>) -> bool
 
 /// Writes a bundle that was made, or why there is none, and tells on standard error what was changed or added.
 pub(crate) fn tell_both<'a, O: Sink, E: Sink>(
-    both: Result<Both, Stop<'a>>,
+    both: Result<OutputAndReport, Stop<'a>>,
     out: &mut O,
     err: &mut E,
 ) -> Result<bool, Stop<'a>>
@@ -69,7 +69,7 @@ pub(crate) fn tell_both<'a, O: Sink, E: Sink>(
     ensures stopped { OnErr result ((ends_told result ≡ true) ⊎ (err.new ≡ err.old)) }
 {
     match both {
-        Ok(Both { told, changes }) => {
+        Ok(OutputAndReport { told, changes }) => {
             let result = tell(Ok(told), out);
             if is_told(&result) {
                 let _ = write_all(changes.as_bytes(), err);

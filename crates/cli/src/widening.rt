@@ -8,7 +8,7 @@ ghost use Rattle.cli.specs.Widened as spec;
 ghost use Rattle.cli.specs.Widened.{TellsWidened};
 ghost use Rattle.cli.specs.inner.Telling.{IsWidenedFrom, IsWidenedOf, told_in};
 
-use crate::adapting::Both;
+use crate::adapting::OutputAndReport;
 use crate::combining::combined_of;
 use crate::files::{Files, read_bundle};
 use crate::logs::learned_of;
@@ -54,21 +54,26 @@ fn rest_of(words: &[&str], otherwise: Otherwise) -> Otherwise
 }
 
 // The bundle of a profile and what was learned together.
-fn both_of(alloc: Global, native: Arch, bundle: Vec<u8>, learned: Both) -> Result<Both, AllocError>
+fn both_of(
+    alloc: Global,
+    native: Arch,
+    bundle: Vec<u8>,
+    learned: OutputAndReport,
+) -> Result<OutputAndReport, AllocError>
     ensures { (file : List ℕ) (texts : List (List ℕ)) (runtime : Option TheRuntime) (otherwise : TheOtherwise)
         → IsBundleText native file bundle.items → TellsLearned native texts runtime otherwise learned.told
         → IfOk result (λ both. TellsWidened native file texts runtime otherwise both.told) }
 {
-    let Both { told, mut changes } = learned;
+    let OutputAndReport { told, mut changes } = learned;
     if !told.end.is_done() {
-        return Ok(Both { told, changes });
+        return Ok(OutputAndReport { told, changes });
     }
     let mut bundles = Vec::new(alloc);
     bundles.push(told.bytes)?;
     bundles.push(bundle)?;
     let both = combined_of(alloc, native, Way::Laxest, &bundles)?;
     changes.push_str(&both.changes)?;
-    Ok(Both {
+    Ok(OutputAndReport {
         told: both.told,
         changes,
     })
@@ -92,7 +97,7 @@ fn widened_by<'a, F: Files>(
     profile: &'a str,
     wish: Wish<'a>,
     files: &mut F,
-) -> Result<Both, Stop<'a>>
+) -> Result<OutputAndReport, Stop<'a>>
     ensures { IsWidenedFrom (F.folder files.old) native profile.entry.now (map (λ log. log.now) wish.entry.logs.items) wish.entry.runtime
         wish.entry.otherwise (told_in result) }
 {
@@ -121,7 +126,7 @@ pub(crate) fn widened<'a, F: Files>(
     profile: &'a str,
     words: &[&'a str],
     files: &mut F,
-) -> Result<Both, Stop<'a>>
+) -> Result<OutputAndReport, Stop<'a>>
     ensures { IsWidenedOf (F.folder files.old) native profile.entry.now (map (λ w. w.now) words.now) (told_in result) }
 {
     match wish_of(alloc, native, words) {

@@ -5,7 +5,7 @@ use Rattle.wording.specs.declared.told.Told.{Told}
 use Rattle.cli.specs.declared.stops.Stop.{Stop}
 use Rattle.machines.specs.declared.arch.Arch.{Arch}
 use Rattle.byte_order.specs.Turned.{read_as}
-use Rattle.cli.specs.declared.adapting.Both.{Both}
+use Rattle.cli.specs.declared.adapting.OutputAndReport.{OutputAndReport}
 use Rattle.cli.specs.declared.stops.Stop.TheVariants.{CannotRead, OutOfMemory, Usage}
 use Rattle.explain.specs.Audit.{IsAudited}
 use Rattle.strace_logs.specs.Given.{GivesAll}
@@ -42,7 +42,7 @@ TellsOn held failures old new (Ok told) result = WritesTold held failures old ne
 TellsOn held failures old new (Err stop) result = (result ≡ Err stop) × (new ≡ old)
 
 -- what is told on standard output, of what is told there and on standard error
-abbrev pub told_in : Result Both Stop → Result Told Stop
+abbrev pub told_in : Result OutputAndReport Stop → Result Told Stop
 told_in (Ok both) = Ok both.told
 told_in (Err stop) = Err stop
 
