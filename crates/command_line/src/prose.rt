@@ -114,8 +114,8 @@ Example: ccell lint linux-x86-64 web.json
 
 const COMPARE: &str =
     "Reports all calls that the two answer unlike, a line for each and each direction, and last what is
-proved: same, allows no more, allows no less, or allows more and less. A call that can be answered
-in more than 4,194,304 ways may be undecided, and is named.
+proved: same, allows no more, allows no less, or allows more and less. A call with too many
+answers may be undecided, and is named.
 Status 0 for same, 4 if a profile is refused, or 1. With atmost, status 0 if the new profile allows no more,
 and has the same flags and listener.
 filters: OLD and NEW are filters. A line stands for each call that is found of which they answer

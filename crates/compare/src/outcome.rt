@@ -18,7 +18,7 @@ use crate::change::{Change, changes_of};
 use crate::equal::are_equal;
 use crate::search::{Crowded, crowded_of, differences_of};
 use crate::sides::Sides;
-use differ::{Differences, all_differences};
+use differ::{Differences, all_differences, all_steps};
 use machines::Family;
 use profile::Profile;
 use std::alloc::{AllocError, Global};
@@ -120,6 +120,7 @@ pub(crate) fn compared(
         return Ok(Comparison::Same);
     }
     let asked = calls(alloc, family)?;
-    let all = all_differences(alloc, first, second, &asked)?;
+    let mut steps = all_steps();
+    let all = all_differences(alloc, first, second, &asked, &mut steps)?;
     by_differences(alloc, family, first, second, &all)
 }

@@ -40,8 +40,9 @@ unfolding ways_by_masks
 masks_more conds n f w v is le small =
     subst (λ k. v ≤ ways_by_masks conds k) (sym (add-one n)) (masks_cases (list_any (has_bit n) conds) f v w (ways_by_masks conds n) is le small)
 
-pub beyond_more : (most w x : ℕ) → most < w → w ≤ x → most < x
-beyond_more most w x lt le = omega arith
+-- the product is beyond, if a lesser one is
+pub beyond_more : (most all w r x y : ℕ) → most < all → all ≤ w * r → w ≤ x → r ≤ y → most < x * y
+beyond_more most all w r x y lt small ways rules = let product : w * r ≤ x * y = mul-le w r x y ways rules in omega arith
 
 pub ways_small : (count masks by_masks ways m k n : ℕ) → count ≤ m → masks ≤ k → by_masks ≤ n → ways ≤ (64 * count + 1) * ((masks + 1) * by_masks)
     → ways ≤ (64 * m + 1) * ((k + 1) * n)

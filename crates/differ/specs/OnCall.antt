@@ -111,13 +111,18 @@ ways_of p q token nr (suc n) = ways_on (conditions_of p q token nr n) * ways_of 
 abbrev pub most_combinations : ℕ
 most_combinations = 1048576
 
--- how many ways are walked through, however long that takes
+-- how many ways, each with all rules, are walked through, however long that takes
 abbrev pub most_ways : ℕ
 most_ways = 4194304
 
--- the six arguments are answered in more ways than that
+-- how many rules two profiles have for all calls together
+abbrev pub all_rules : Policy → Policy → ℕ
+all_rules p q = length p.rules + length q.rules
+
+-- The ways in which the six arguments of the call are answered, times the rules of both profiles, are more than that. Summed over the calls
+-- that are not crowded, ways times the rules for the call are at most that.
 abbrev pub AreCrowded : Policy → Policy → ℕ → ℕ → Type 0
-AreCrowded p q token nr = most_ways < ways_of p q token nr 6
+AreCrowded p q token nr = most_ways < ways_of p q token nr 6 * all_rules p q
 
 abbrev pub IsUnsettled : Policy → Policy → ℕ → ℕ → Unlisted → Type 0
 IsUnsettled p q token nr TooMany = AreCrowded p q token nr

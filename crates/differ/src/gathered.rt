@@ -11,6 +11,7 @@ use crate::direction::{Direction, tells};
 use crate::everywhere::{named_calls, rest_of};
 use crate::found::Found;
 use crate::listed::Unlisted;
+use crate::memory::Steps;
 use crate::named::Call;
 use crate::on_call::differ_on;
 use profile::Profile;
@@ -49,6 +50,7 @@ fn add_in(
     call: &Call,
     direction: Direction,
     told: &mut Differences,
+    steps: &mut Steps,
 ) -> Result<bool, AllocError>
     ensures told { AreTold first.now second.now Any told.old → IfOk result (λ _. AreTold first.now second.now Any told.new) }
     ensures told_in { AreTold first.now second.now direction told.old → IfOk result (λ _. AreTold first.now second.now direction told.new) }
@@ -56,7 +58,7 @@ fn add_in(
     ensures answered { IfOk result (λ _. IsAnswered first.now second.now told.new call.now.token call.now.nr direction) }
     ensures some { IfOk result (λ some. some ≡ true → IsAnswered first.now second.now told.new call.now.token call.now.nr Any) }
 {
-    match differ_on(alloc, first, second, call.token, call.nr, direction) {
+    match differ_on(alloc, first, second, call.token, call.nr, direction, steps) {
         Ok(None) => Ok(false),
         Ok(Some(found)) => {
             add_found(told, found)?;
@@ -78,14 +80,15 @@ fn add_directions(
     call: &Call,
     found: Found,
     told: &mut Differences,
+    steps: &mut Steps,
 ) -> Result<(), AllocError>
     requires { IsFound first.now second.now call.now.token call.now.nr Any found }
     ensures told { AreTold first.now second.now Any told.old → IfOk result (λ _. AreTold first.now second.now Any told.new) }
     ensures extends { IfOk result (λ _. Extends told.old told.new) }
     ensures answered { (direction : TheDirection) → IfOk result (λ _. IsAnswered first.now second.now told.new call.now.token call.now.nr direction) }
 {
-    let less = add_in(alloc, first, second, call, Direction::Less, told)?;
-    let more = add_in(alloc, first, second, call, Direction::More, told)?;
+    let less = add_in(alloc, first, second, call, Direction::Less, told, steps)?;
+    let more = add_in(alloc, first, second, call, Direction::More, told, steps)?;
     if less {
         return Ok(());
     }
@@ -103,14 +106,23 @@ fn add_call(
     second: &Profile,
     call: &Call,
     told: &mut Differences,
+    steps: &mut Steps,
 ) -> Result<(), AllocError>
     ensures told { AreTold first.now second.now Any told.old → IfOk result (λ _. AreTold first.now second.now Any told.new) }
     ensures extends { IfOk result (λ _. Extends told.old told.new) }
     ensures answered { (direction : TheDirection) → IfOk result (λ _. IsAnswered first.now second.now told.new call.now.token call.now.nr direction) }
 {
-    match differ_on(alloc, first, second, call.token, call.nr, Direction::Any) {
+    match differ_on(
+        alloc,
+        first,
+        second,
+        call.token,
+        call.nr,
+        Direction::Any,
+        steps,
+    ) {
         Ok(None) => Ok(()),
-        Ok(Some(found)) => add_directions(alloc, first, second, call, found, told),
+        Ok(Some(found)) => add_directions(alloc, first, second, call, found, told, steps),
         Err(Unlisted::TooMany) => {
             add_crowded(told, *call)?;
             Ok(())
@@ -126,6 +138,7 @@ fn add_each(
     second: &Profile,
     list: &[Call],
     told: &mut Differences,
+    steps: &mut Steps,
 ) -> Result<(), AllocError>
     ensures told { AreTold first.now second.now Any told.old → IfOk result (λ _. AreTold first.now second.now Any told.new) }
     ensures extends { IfOk result (λ _. Extends told.old told.new) }
@@ -133,7 +146,7 @@ fn add_each(
         → IfOk result (λ _. IsAnswered first.now second.now told.new token nr direction) }
 {
     for call in list {
-        add_call(alloc, first, second, call, told)?;
+        add_call(alloc, first, second, call, told, steps)?;
     }
     Ok(())
 }
@@ -161,6 +174,7 @@ fn add_other(
     call: &Call,
     direction: Direction,
     told: &mut Differences,
+    steps: &mut Steps,
 ) -> Result<(), AllocError>
     ensures told { AreTold first.now second.now Any told.old → IfOk result (λ _. AreTold first.now second.now Any told.new) }
     ensures told_in { AreTold first.now second.now direction told.old → IfOk result (λ _. AreTold first.now second.now direction told.new) }
@@ -170,7 +184,7 @@ fn add_other(
     if is_told_with(told, call.token, direction) {
         return Ok(());
     }
-    add_in(alloc, first, second, call, direction, told)?;
+    add_in(alloc, first, second, call, direction, told, steps)?;
     Ok(())
 }
 
@@ -181,14 +195,15 @@ fn add_rest(
     second: &Profile,
     call: &Call,
     told: &mut Differences,
+    steps: &mut Steps,
 ) -> Result<(), AllocError>
     ensures told { AreTold first.now second.now Any told.old → IfOk result (λ _. AreTold first.now second.now Any told.new) }
     ensures extends { IfOk result (λ _. Extends told.old told.new) }
     ensures covered { (direction : TheDirection) → IfOk result (λ _. IsCovered first.now second.now told.new call.now.token call.now.nr direction) }
 {
-    add_other(alloc, first, second, call, Direction::Less, told)?;
-    add_other(alloc, first, second, call, Direction::More, told)?;
-    add_other(alloc, first, second, call, Direction::Any, told)?;
+    add_other(alloc, first, second, call, Direction::Less, told, steps)?;
+    add_other(alloc, first, second, call, Direction::More, told, steps)?;
+    add_other(alloc, first, second, call, Direction::Any, told, steps)?;
     Ok(())
 }
 
@@ -199,6 +214,7 @@ fn add_all_rest(
     second: &Profile,
     list: &[Call],
     told: &mut Differences,
+    steps: &mut Steps,
 ) -> Result<(), AllocError>
     ensures told { AreTold first.now second.now Any told.old → IfOk result (λ _. AreTold first.now second.now Any told.new) }
     ensures extends { IfOk result (λ _. Extends told.old told.new) }
@@ -206,7 +222,7 @@ fn add_all_rest(
         → IfOk result (λ _. IsCovered first.now second.now told.new token nr direction) }
 {
     for call in list {
-        add_rest(alloc, first, second, call, told)?;
+        add_rest(alloc, first, second, call, told, steps)?;
     }
     Ok(())
 }
@@ -217,6 +233,7 @@ pub fn all_differences(
     first: &Profile,
     second: &Profile,
     asked: &[Call],
+    steps: &mut Steps,
 ) -> Result<Differences, AllocError>
     ensures { IfOk result (AreAll first.now second.now asked.now) }
 {
@@ -226,8 +243,8 @@ pub fn all_differences(
         found: Vec::new(alloc),
         crowded: Vec::new(alloc),
     };
-    add_each(alloc, first, second, &named, &mut told)?;
-    add_all_rest(alloc, first, second, &rest, &mut told)?;
+    add_each(alloc, first, second, &named, &mut told, steps)?;
+    add_all_rest(alloc, first, second, &rest, &mut told, steps)?;
     Ok(told)
 }
 
@@ -239,6 +256,7 @@ fn add_each_in(
     list: &[Call],
     direction: Direction,
     told: &mut Differences,
+    steps: &mut Steps,
 ) -> Result<(), AllocError>
     ensures told { AreTold first.now second.now direction told.old → IfOk result (λ _. AreTold first.now second.now direction told.new) }
     ensures extends { IfOk result (λ _. Extends told.old told.new) }
@@ -246,7 +264,7 @@ fn add_each_in(
         → IfOk result (λ _. IsAnswered first.now second.now told.new token nr direction) }
 {
     for call in list {
-        add_in(alloc, first, second, call, direction, told)?;
+        add_in(alloc, first, second, call, direction, told, steps)?;
     }
     Ok(())
 }
@@ -259,6 +277,7 @@ fn add_rest_in(
     list: &[Call],
     direction: Direction,
     told: &mut Differences,
+    steps: &mut Steps,
 ) -> Result<(), AllocError>
     ensures told { AreTold first.now second.now direction told.old → IfOk result (λ _. AreTold first.now second.now direction told.new) }
     ensures extends { IfOk result (λ _. Extends told.old told.new) }
@@ -266,7 +285,7 @@ fn add_rest_in(
         → IfOk result (λ _. IsCovered first.now second.now told.new token nr direction) }
 {
     for call in list {
-        add_other(alloc, first, second, call, direction, told)?;
+        add_other(alloc, first, second, call, direction, told, steps)?;
     }
     Ok(())
 }
@@ -277,6 +296,7 @@ pub fn differences_in(
     first: &Profile,
     second: &Profile,
     direction: Direction,
+    steps: &mut Steps,
 ) -> Result<Differences, AllocError>
     ensures { IfOk result (AreAllIn first.now second.now direction) }
 {
@@ -286,7 +306,7 @@ pub fn differences_in(
         found: Vec::new(alloc),
         crowded: Vec::new(alloc),
     };
-    add_each_in(alloc, first, second, &named, direction, &mut told)?;
-    add_rest_in(alloc, first, second, &rest, direction, &mut told)?;
+    add_each_in(alloc, first, second, &named, direction, &mut told, steps)?;
+    add_rest_in(alloc, first, second, &rest, direction, &mut told, steps)?;
     Ok(told)
 }

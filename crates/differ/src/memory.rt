@@ -15,6 +15,8 @@ pub struct Memory {
     /// Whether the steps are limited.
     pub limited: bool,
     left: usize,
+    // How many of the steps came of those of the command.
+    share: usize,
     // How many rules may still be kept in mind.
     room: usize,
     list: Vec<Known>,
@@ -22,23 +24,66 @@ pub struct Memory {
     places: BTreeMap<u64, usize>,
 }
 
-/// How many steps are gone where they are limited. A step counts as one, and one for each rule that is left.
-pub const MOST_STEPS: usize = 4_194_304;
+/// How many steps a command goes at calls that are crowded, beside those that each of these has of its own. A step counts as one, and one for
+/// each rule that is left and each of its parts.
+pub const MOST_STEPS: usize = 8_388_608;
+
+/// How many steps a crowded call has of its own for each of its rules.
+pub const OWN_STEPS: usize = 256;
+
+/// How many steps a command may still go at calls that are crowded.
+#[derive(Drop)]
+pub struct Steps {
+    left: usize,
+}
+
+/// All steps of a command.
+pub fn all_steps() -> Steps {
+    Steps { left: MOST_STEPS }
+}
+
+// Takes half of the steps that are left.
+fn taken(steps: &mut Steps) -> usize {
+    let share = steps.left / 2;
+    steps.left -= share;
+    share
+}
+
+/// Gives back to a command the steps that a walk has left of them.
+pub fn give_back(steps: &mut Steps, memory: &Memory) {
+    steps.left = steps.left.saturating_add(memory.left.min(memory.share));
+}
 
 /// How many rules are kept in mind at most.
 pub const MOST_KEPT: usize = 1_048_576;
 
-/// A memory with nothing in it.
-pub(crate) fn empty_memory(alloc: Global, limited: bool) -> Memory
+/// A memory with nothing in it, for a walk over so many rules. It takes half of the steps that a command has left.
+pub(crate) fn empty_memory(alloc: Global, limited: bool, rules: usize, steps: &mut Steps) -> Memory
     ensures { result.limited ≡ limited }
 {
+    let share = if limited { taken(steps) } else { 0 };
     Memory {
         limited,
-        left: MOST_STEPS,
+        left: share.saturating_add(rules.saturating_mul(OWN_STEPS)),
+        share,
         room: MOST_KEPT,
         list: Vec::new(alloc),
         places: BTreeMap::new(alloc),
     }
+}
+
+// One for each rule that is left, and each of its parts.
+fn weight_of(side: &Side) -> usize {
+    let mut weight = side.rules.len();
+    for rest in &side.rules {
+        weight = weight.saturating_add(rest.parts.len());
+    }
+    weight
+}
+
+/// A memory with nothing in it, for a walk over so many rules whose steps are limited.
+pub fn limited_memory(alloc: Global, rules: usize, steps: &mut Steps) -> Memory {
+    empty_memory(alloc, true, rules, steps)
 }
 
 /// Counts a step.
@@ -49,11 +94,12 @@ pub(crate) fn spend(memory: &mut Memory, one: &Side, other: &Side) -> Result<(),
     if !memory.limited {
         return Ok(());
     }
-    let rules = one.rules.len().saturating_add(other.rules.len());
-    if memory.left <= rules {
+    let weight = weight_of(one).saturating_add(weight_of(other));
+    if memory.left <= weight {
+        memory.left = 0;
         return Err(Unlisted::TooMany);
     }
-    memory.left -= rules;
+    memory.left -= weight;
     memory.left -= 1;
     Ok(())
 }

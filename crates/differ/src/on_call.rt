@@ -5,7 +5,7 @@ ghost use Rattle.differ.specs.OnCall.{AreCrowded, AreLikeOnCall, IsFound, IsUnse
 use crate::direction::Direction;
 use crate::found::{Found, found_on};
 use crate::listed::Unlisted;
-use crate::memory::{Memory, empty_memory};
+use crate::memory::{Memory, Steps, empty_memory, give_back};
 use crate::opened::open_for;
 use crate::sides::side_of;
 use crate::walk::{bits_of, unlike_at};
@@ -14,19 +14,21 @@ use call_record::{Record, words_are_a_record};
 use profile::Profile;
 use std::alloc::{AllocError, Global};
 
-/// What a walk begins with: its steps are limited where the call is crowded.
+/// What a walk begins with: its steps are limited where the call is crowded. Half of those that a command has left are then for it.
 pub fn memory_for(
     alloc: Global,
     first: &Profile,
     second: &Profile,
     token: u32,
     nr: u32,
+    steps: &mut Steps,
 ) -> Result<Memory, AllocError>
     ensures { IfOk result (λ begun. begun.limited ≡ true → AreCrowded first.now second.now token nr) }
 {
     let held = open_for(alloc, first, second, token, nr)?;
     let limited = are_crowded(alloc, first, second, &held, token, nr)?;
-    Ok(empty_memory(alloc, limited))
+    let rules = held.first.len().saturating_add(held.second.len());
+    Ok(empty_memory(alloc, limited, rules, steps))
 }
 
 // The record of a call with these arguments.
@@ -52,6 +54,7 @@ pub fn differ_on(
     token: u32,
     nr: u32,
     direction: Direction,
+    steps: &mut Steps,
 ) -> Result<Option<Found>, Unlisted>
     ensures found { IfOk result (λ found. IfSome found (IsFound first.now second.now token nr direction)) }
     ensures none { IfOk result (λ found. IfNone found (AreLikeOnCall first.now second.now token nr direction)) }
@@ -61,11 +64,15 @@ pub fn differ_on(
     second.rules();
     let one = side_of(alloc, first, token, nr)?;
     let other = side_of(alloc, second, token, nr)?;
-    let mut memory = memory_for(alloc, first, second, token, nr)?;
+    let mut memory = memory_for(alloc, first, second, token, nr, steps)?;
     let bits = bits_of(token);
     match unlike_at(alloc, direction, one, other, 0, bits, bits, &mut memory)? {
-        None => Ok(None),
+        None => {
+            give_back(steps, &memory);
+            Ok(None)
+        }
         Some(args) => {
+            give_back(steps, &memory);
             let call = record_of(token, nr, args);
             words_are_a_record(&call);
             Ok(found_on(first, second, direction, &call))

@@ -1,7 +1,7 @@
 //! In how many ways the arguments of a call are answered.
 ghost use Rattle.std.specs.Prelude.{◌≡◌, ◌==◌, ◌*◌, ◌+◌, ◌≤◌, ◌<◌, ◌&&◌, not, true, filter, length, IfOk, if◌then◌else◌};
 ghost use Rattle.std.specs.List.{list_any};
-ghost use Rattle.differ.specs.OnCall.{AreCrowded, comparisons, has_bit, is_masked, masks, rules_for, ways_by_masks, ways_on};
+ghost use Rattle.differ.specs.OnCall.{AreCrowded, all_rules, comparisons, has_bit, is_masked, masks, rules_for, ways_by_masks, ways_on};
 
 use crate::opened::{Open, conditions_at};
 use profile::{Cond, Op, Profile};
@@ -10,7 +10,7 @@ use std::alloc::{AllocError, Global};
 /// How many combinations are looked at.
 pub const MOST_COMBINATIONS: usize = 1_048_576;
 
-/// How many ways are walked through, however long that takes.
+/// How many ways, each with all rules, are walked through, however long that takes.
 pub const MOST_WAYS: usize = 4_194_304;
 
 fn is_masked(op: Op) -> bool
@@ -93,6 +93,13 @@ fn ways_on(conds: &[Cond]) -> usize
     compared.saturating_mul(masked.saturating_mul(ways_by_masks(conds)))
 }
 
+// At most as many rules as two profiles have.
+fn all_rules(first: &Profile, second: &Profile) -> usize
+    ensures { result ≤ all_rules first.now second.now }
+{
+    first.rules().len().saturating_add(second.rules().len())
+}
+
 /// Whether the arguments of a call are answered in more ways than are walked through without a limit.
 pub(crate) fn are_crowded(
     alloc: Global,
@@ -111,5 +118,6 @@ pub(crate) fn are_crowded(
         let conds = conditions_at(alloc, held, index)?;
         ways = ways_on(&conds).saturating_mul(ways);
     }
-    Ok(ways > MOST_WAYS)
+    let all = ways.saturating_mul(all_rules(first, second));
+    Ok(all > MOST_WAYS)
 }

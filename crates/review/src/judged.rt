@@ -7,7 +7,7 @@ ghost use Rattle.review.specs.Judged as spec;
 use crate::asked::Asked;
 use crate::opposed::{opposed, rule_of};
 use call_record::Record;
-use differ::{Direction, Found, Unlisted, differ_on};
+use differ::{Direction, Found, Steps, Unlisted, differ_on};
 use profile::{Profile, Rule};
 use std::alloc::{AllocError, Global};
 
@@ -48,12 +48,21 @@ fn found_by(
     other: &Profile,
     asked: &Asked,
     rule: &Rule,
+    steps: &mut Steps,
 ) -> Result<Answer, AllocError>
     requires { spec.IsOpposedBy asked.now rule.now other.now }
     ensures { IfOk result (spec.IsAnswer profile.now asked.now) }
 {
     let token = asked.arch.token();
-    match differ_on(alloc, profile, other, token, asked.nr, Direction::Less) {
+    match differ_on(
+        alloc,
+        profile,
+        other,
+        token,
+        asked.nr,
+        Direction::Less,
+        steps,
+    ) {
         Ok(None) => Ok(Answer::Refused),
         Ok(Some(found)) => {
             let call = matching(rule, &found)?;
@@ -70,21 +79,27 @@ fn answer_by(
     profile: &Profile,
     asked: &Asked,
     rule: &Rule,
+    steps: &mut Steps,
 ) -> Result<Answer, AllocError>
     requires { spec.IsRuleOf asked.now rule.now }
     ensures { IfOk result (spec.IsAnswer profile.now asked.now) }
 {
     let other = opposed(alloc, asked, rule)?;
-    let answer = found_by(alloc, profile, &other, asked, rule)?;
+    let answer = found_by(alloc, profile, &other, asked, rule, steps)?;
     Ok(answer)
 }
 
 // Whether a profile lets through what is asked about.
-fn answer_of(alloc: Global, profile: &Profile, asked: &Asked) -> Result<Answer, AllocError>
+fn answer_of(
+    alloc: Global,
+    profile: &Profile,
+    asked: &Asked,
+    steps: &mut Steps,
+) -> Result<Answer, AllocError>
     ensures { IfOk result (spec.IsAnswer profile.now asked.now) }
 {
     match rule_of(asked) {
-        Some(rule) => answer_by(alloc, profile, asked, &rule),
+        Some(rule) => answer_by(alloc, profile, asked, &rule, steps),
         None => Err(AllocError),
     }
 }
@@ -94,12 +109,13 @@ pub(crate) fn judge(
     alloc: Global,
     profile: &Profile,
     list: &[Asked],
+    steps: &mut Steps,
 ) -> Result<Vec<Judged>, AllocError>
     ensures { IfOk result (λ judged. spec.AreJudged profile.now list.now judged.items) }
 {
     let mut judged = Vec::new(alloc);
     for asked in list {
-        let answer = answer_of(alloc, profile, asked)?;
+        let answer = answer_of(alloc, profile, asked, steps)?;
         judged.push(Judged {
             asked: *asked,
             answer,

@@ -7,6 +7,7 @@ use crate::asked::asked_by;
 use crate::groups::Part;
 use crate::judged::{Judged, judge};
 use crate::text::{all_refused, some_open};
+use differ::Steps;
 use profile::Profile;
 use std::alloc::{AllocError, Global};
 
@@ -50,12 +51,17 @@ fn standing_of(list: &[Judged]) -> Standing
 }
 
 // What a profile says of a call.
-fn member_of(alloc: Global, profile: &Profile, name: &'static str) -> Result<Member, AllocError>
+fn member_of(
+    alloc: Global,
+    profile: &Profile,
+    name: &'static str,
+    steps: &mut Steps,
+) -> Result<Member, AllocError>
     ensures name { IfOk result (λ member. member.name.now ≡ name.now) }
     ensures standing { IfOk result (spec.IsStanding profile.now) }
 {
     let asked = asked_by(alloc, profile.machines(), name, any())?;
-    let judged = judge(alloc, profile, &asked)?;
+    let judged = judge(alloc, profile, &asked, steps)?;
     Ok(Member {
         name,
         standing: standing_of(&judged),
@@ -67,12 +73,13 @@ pub(crate) fn judge_members(
     alloc: Global,
     profile: &Profile,
     names: &[&'static str],
+    steps: &mut Steps,
 ) -> Result<Vec<Member>, AllocError>
     ensures { IfOk result (λ list. spec.AreStanding profile.now (map now_of names.now) list.items) }
 {
     let mut list = Vec::new(alloc);
     for name in names {
-        let member = member_of(alloc, profile, *name)?;
+        let member = member_of(alloc, profile, *name, steps)?;
         list.push(member)?;
     }
     Ok(list)

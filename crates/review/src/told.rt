@@ -17,6 +17,7 @@ use crate::systemd::group_names;
 use crate::systemd_text::put_systemd;
 use crate::table::groups;
 use crate::text::put_group;
+use differ::{Steps, all_steps};
 use profile::Profile;
 use profile_json::{Document, EntryRules, ProfileError};
 use std::alloc::{AllocError, Global};
@@ -29,11 +30,12 @@ fn add_group(
     profile: &Profile,
     all: &EntryRules,
     group: &Group,
+    steps: &mut Steps,
 ) -> Result<(), AllocError>
     ensures { IfOk result (λ _. AddsGroup profile.now all.now.rules.items all.now.ends.items group.now (string_bytes text.old) (string_bytes text.new)) }
 {
     let asked = asked_of(alloc, profile.machines(), group.2)?;
-    let list = judge(alloc, profile, &asked)?;
+    let list = judge(alloc, profile, &asked, steps)?;
     put_group(text, profile, all, group, &list)?;
     Ok(())
 }
@@ -44,9 +46,10 @@ fn text_of(alloc: Global, profile: &Profile, all: &EntryRules) -> Result<String,
         × TellsGroups profile.now all.now.rules.items all.now.ends.items groups (string_bytes text)) }
 {
     let mut text = String::new(alloc);
+    let mut steps = all_steps();
     let groups = groups();
     for group in groups {
-        add_group(alloc, &mut text, profile, all, group)?;
+        add_group(alloc, &mut text, profile, all, group, &mut steps)?;
     }
     Ok(text)
 }
@@ -57,11 +60,12 @@ fn add_systemd(
     text: &mut String,
     profile: &Profile,
     group: &str,
+    steps: &mut Steps,
 ) -> Result<(), AllocError>
     ensures { IfOk result (λ _. AddsSystemd profile.now group.now (string_bytes text.old) (string_bytes text.new)) }
 {
     let names = members_of(alloc, profile.machines(), group)?;
-    let list = judge_members(alloc, profile, &names)?;
+    let list = judge_members(alloc, profile, &names, steps)?;
     put_systemd(alloc, text, group, &list)?;
     Ok(())
 }
@@ -71,9 +75,10 @@ fn systemd_of(alloc: Global, profile: &Profile) -> Result<String, AllocError>
     ensures { IfOk result (λ text. TellsSystemd profile.now systemd.group_names (string_bytes text)) }
 {
     let mut text = String::new(alloc);
+    let mut steps = all_steps();
     let groups = group_names();
     for group in groups {
-        add_systemd(alloc, &mut text, profile, group)?;
+        add_systemd(alloc, &mut text, profile, group, &mut steps)?;
     }
     Ok(text)
 }

@@ -7,7 +7,7 @@ ghost use Rattle.differ.specs.Named.{is_named};
 use crate::named::calls_of;
 use crate::on_call::past_on;
 use crate::past::Past;
-use differ::{Call, Direction, Unlisted};
+use differ::{Call, Direction, Steps, Unlisted};
 use profile::Profile;
 use std::alloc::{AllocError, Global};
 
@@ -43,12 +43,13 @@ fn add_call(
     call: &Call,
     direction: Direction,
     all: &mut AllPast,
+    steps: &mut Steps,
 ) -> Result<(), AllocError>
     ensures told { AreTold profile.now direction all.old → IfOk result (λ _. AreTold profile.now direction all.new) }
     ensures extends { IfOk result (λ _. Extends all.old all.new) }
     ensures answered { IfOk result (λ _. IsAnswered profile.now direction all.new call.now.token call.now.nr) }
 {
-    match past_on(alloc, profile, call.token, call.nr, direction) {
+    match past_on(alloc, profile, call.token, call.nr, direction, steps) {
         Ok(None) => Ok(()),
         Ok(Some(past)) => {
             add_found(all, past)?;
@@ -69,12 +70,13 @@ fn add_each(
     list: &[Call],
     direction: Direction,
     all: &mut AllPast,
+    steps: &mut Steps,
 ) -> Result<(), AllocError>
     ensures told { AreTold profile.now direction all.old → IfOk result (λ _. AreTold profile.now direction all.new) }
     ensures answered { (t n : ℕ) → is_named list.now t n ≡ true → IfOk result (λ _. IsAnswered profile.now direction all.new t n) }
 {
     for call in list {
-        add_call(alloc, profile, call, direction, all)?;
+        add_call(alloc, profile, call, direction, all, steps)?;
     }
     Ok(())
 }
@@ -85,6 +87,7 @@ pub fn all_past(
     alloc: Global,
     profile: &Profile,
     direction: Direction,
+    steps: &mut Steps,
 ) -> Result<AllPast, AllocError>
     ensures { IfOk result (AreAllPast profile.now direction) }
 {
@@ -94,6 +97,6 @@ pub fn all_past(
         found: Vec::new(alloc),
         crowded: Vec::new(alloc),
     };
-    add_each(alloc, profile, &list, direction, &mut all)?;
+    add_each(alloc, profile, &list, direction, &mut all, steps)?;
     Ok(all)
 }

@@ -7,7 +7,7 @@ ghost use Rattle.unread_bits.specs.Past.{AreLikeOnCall, IsUnlikeOf};
 use crate::past::{Past, past_by};
 use crate::sides::side_of;
 use call_record::{Record, words_are_a_record};
-use differ::{Direction, Unlisted, bits_of, memory_for, unlike_at};
+use differ::{Direction, Steps, Unlisted, bits_of, give_back, memory_for, unlike_at};
 use profile::Profile;
 use std::alloc::Global;
 use widths::read_bits;
@@ -56,6 +56,7 @@ pub fn past_on(
     token: u32,
     nr: u32,
     direction: Direction,
+    steps: &mut Steps,
 ) -> Result<Option<Past>, Unlisted>
     ensures past { IfOk result (λ found. IfSome found (IsUnlikeOf profile.now token nr direction)) }
     ensures none { IfOk result (λ found. IfNone found (AreLikeOnCall profile.now token nr direction)) }
@@ -66,11 +67,15 @@ pub fn past_on(
     let read = reads_of(token, nr);
     let one = side_of(alloc, profile, token, nr, &whole, direction)?;
     let other = side_of(alloc, profile, token, nr, &read, direction)?;
-    let mut memory = memory_for(alloc, profile, profile, token, nr)?;
+    let mut memory = memory_for(alloc, profile, profile, token, nr, steps)?;
     let bits = bits_of(token);
     match unlike_at(alloc, direction, one, other, 0, bits, bits, &mut memory)? {
-        None => Ok(None),
+        None => {
+            give_back(steps, &memory);
+            Ok(None)
+        }
         Some(args) => {
+            give_back(steps, &memory);
             let call = record_of(token, nr, args);
             words_are_a_record(&call);
             Ok(past_by(profile, &call, direction))

@@ -8,7 +8,7 @@ ghost use Rattle.unread_bits.specs.Crowded.{AreCrowded};
 
 use crate::lint::past::{Finding, Past};
 use crate::search::{Crowded, crowded_of};
-use differ::{Call, Direction};
+use differ::{Call, Direction, all_steps};
 use machines::Family;
 use profile::Profile;
 use std::alloc::{AllocError, Global};
@@ -74,8 +74,9 @@ fn add_all(list: &mut Vec<Call>, more: &[Call]) -> Result<(), AllocError>
 pub fn finding(alloc: Global, family: Family, profile: &Profile) -> Result<Finding, AllocError>
     ensures { IfOk result (IsFinding family profile.now) }
 {
-    let past = all_past(alloc, profile, Direction::Less)?;
-    let stopped = all_past(alloc, profile, Direction::More)?;
+    let mut steps = all_steps();
+    let past = all_past(alloc, profile, Direction::Less, &mut steps)?;
+    let stopped = all_past(alloc, profile, Direction::More, &mut steps)?;
     let mut calls = Vec::new(alloc);
     add_all(&mut calls, &past.crowded)?;
     add_all(&mut calls, &stopped.crowded)?;

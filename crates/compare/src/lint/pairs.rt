@@ -2,7 +2,7 @@
 use crate::lint::places::entry_at;
 use call_record::Word;
 use call_tables::call_number;
-use differ::{Direction, Unlisted, differ_on};
+use differ::{Direction, Steps, Unlisted, all_steps, differ_on};
 use machines::Arch;
 use profile::Profile;
 use profile_json::EntryRules;
@@ -49,9 +49,10 @@ fn differs(
     other: &Profile,
     call: (Arch, u32),
     direction: Direction,
+    steps: &mut Steps,
 ) -> Result<Option<bool>, AllocError> {
     let (arch, nr) = call;
-    match differ_on(alloc, profile, other, arch.token(), nr, direction) {
+    match differ_on(alloc, profile, other, arch.token(), nr, direction, steps) {
         Ok(found) => Ok(Some(found.is_some())),
         Err(Unlisted::TooMany) => Ok(None),
         Err(Unlisted::OutOfMemory) => Err(AllocError),
@@ -64,8 +65,9 @@ fn is_refused(
     profile: &Profile,
     beside: &Beside,
     call: (Arch, u32),
+    steps: &mut Steps,
 ) -> Result<Option<bool>, AllocError> {
-    differs(alloc, profile, &beside.open, call, Direction::More)
+    differs(alloc, profile, &beside.open, call, Direction::More, steps)
 }
 
 // Whether a record of a call is let through.
@@ -74,8 +76,9 @@ fn is_through(
     profile: &Profile,
     beside: &Beside,
     call: (Arch, u32),
+    steps: &mut Steps,
 ) -> Result<Option<bool>, AllocError> {
-    differs(alloc, profile, &beside.shut, call, Direction::Less)
+    differs(alloc, profile, &beside.shut, call, Direction::Less, steps)
 }
 
 // Whether a part of the first call is let through, if some of it is refused and nothing of the second one.
@@ -85,12 +88,13 @@ fn passed(
     arch: Arch,
     first: u32,
     second: u32,
+    steps: &mut Steps,
 ) -> Result<Option<bool>, AllocError> {
     let beside = Beside::of(alloc, arch)?;
-    let of_first = is_refused(alloc, profile, &beside, (arch, first))?;
-    let of_second = is_refused(alloc, profile, &beside, (arch, second))?;
+    let of_first = is_refused(alloc, profile, &beside, (arch, first), steps)?;
+    let of_second = is_refused(alloc, profile, &beside, (arch, second), steps)?;
     if of_first == Some(true) && of_second == Some(false) {
-        return is_through(alloc, profile, &beside, (arch, first));
+        return is_through(alloc, profile, &beside, (arch, first), steps);
     }
     Ok(None)
 }
@@ -103,12 +107,14 @@ fn put_pair(
     all: &EntryRules,
     arch: Arch,
     pair: (&str, &str),
+    steps: &mut Steps,
 ) -> Result<(), AllocError> {
     let (first, second) = pair;
-    let (Some(nr), Some(other)) = (call_number(arch, first), call_number(arch, second)) else {
+    let (Some(nr), Some(other)) = (call_number(arch, first), call_number(arch, second), steps)
+    else {
         return Ok(());
     };
-    let Some(in_part) = passed(alloc, profile, arch, nr, other)? else {
+    let Some(in_part) = passed(alloc, profile, arch, nr, other, steps)? else {
         return Ok(());
     };
     text.put("remark: ");
@@ -130,9 +136,10 @@ pub(crate) fn put_pairs(
     profile: &Profile,
     all: &EntryRules,
 ) -> Result<(), AllocError> {
+    let mut steps = all_steps();
     for arch in profile.machines() {
         for pair in &PAIRS {
-            put_pair(alloc, text, profile, all, *arch, *pair)?;
+            put_pair(alloc, text, profile, all, *arch, *pair, &mut steps)?;
         }
     }
     Ok(())

@@ -1,7 +1,7 @@
 use Rattle.std.proofs.Common.{◌≡◌, ◌≤◌, ◌<◌, ◌*◌, List, arith, subst}
 use Rattle.std.proofs.lemmas.Bool.{ltb-true}
 use Rattle.profile.specs.declared.conditions.Cond.{Cond}
-use Rattle.differ.specs.OnCall.{most_ways, ways_of, ways_on}
+use Rattle.differ.specs.OnCall.{all_rules, most_ways, ways_of, ways_on}
 use Rattle.differ.proofs.WaysLaws.{beyond_more, ways_next}
 use Rattle.differ.proofs.ways.are_crowded.Goals as goal
 
@@ -17,5 +17,8 @@ returns c = λ many.
     let all : c.loop-index.index ≡ 6 = omega arith in
     let few : c.loop-index.ways ≤ ways_of c.args.first.now c.args.second.now c.args.token c.args.nr 6 =
     subst (λ k. c.loop-index.ways ≤ ways_of c.args.first.now c.args.second.now c.args.token c.args.nr k) all c.loop-index.invariant in
-    let beyond : most_ways < c.loop-index.ways = ltb-true _ _ many in
-    beyond_more most_ways c.loop-index.ways (ways_of c.args.first.now c.args.second.now c.args.token c.args.nr 6) beyond few
+    let beyond : most_ways < c.saturating_mul-all.result = ltb-true _ _ many in
+    let small : c.saturating_mul-all.result ≤ c.loop-index.ways * c.all_rules.result = omega arith in
+    beyond_more most_ways c.saturating_mul-all.result c.loop-index.ways c.all_rules.result
+    (ways_of c.args.first.now c.args.second.now c.args.token c.args.nr 6) (all_rules c.args.first.now c.args.second.now) beyond small few
+    c.all_rules.ensures
