@@ -32,6 +32,7 @@ use Rattle.together.specs.Together.{SaysTogether}
 use Rattle.together.specs.Word.{is_laxest, laxest_of}
 use Rattle.together.specs.declared.way.Way.TheVariants.{Laxest}
 use Rattle.call_groups.specs.Groups.{calls_of_all}
+use Rattle.wording.specs.Told.{was_done}
 use Rattle.allow_groups.specs.Allowed.{MeansWith, TellsGrown, TellsLines, calls_for}
 use Rattle.allow_groups.specs.Report.{report}
 use Rattle.allow_groups.specs.declared.grown.Grown.{Grown}
@@ -288,6 +289,6 @@ has_groups native groups bundle p means (Ok grown) tells = λ done.
 has_groups native groups bundle p means (Err e) tells = tt
 
 pub none_grown : (native : Arch) (groups : List (List ℕ)) (bundle : List ℕ) (r : Result Grown AllocError)
-    → IfOk r (λ grown. grown.told.done ≡ false) → IfOk r (λ grown. TellsGrown native groups bundle grown.told (string_bytes grown.lines))
+    → IfOk r (λ grown. was_done grown.told.end ≡ false) → IfOk r (λ grown. TellsGrown native groups bundle grown.told (string_bytes grown.lines))
 none_grown native groups bundle (Ok grown) e = λ done. let never : true ≡ false = sym done ∙ e in absurd (cc)
 none_grown native groups bundle (Err e) h = tt

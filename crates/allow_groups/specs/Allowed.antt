@@ -7,6 +7,7 @@ use Rattle.machines.specs.declared.arch.Arch.{Arch}
 use Rattle.profile.specs.Policy.{Policy}
 use Rattle.profile.specs.Said.{is_native, said}
 use Rattle.together.specs.Combined.{IsBundle}
+use Rattle.wording.specs.Told.{was_done}
 use Rattle.wording.specs.declared.told.Told.{Told}
 use Rattle.allow_groups.specs.declared.grown.Grown.{Grown}
 use Rattle.allow_groups.specs.Calls.{calls_on, is_of}
@@ -44,7 +45,7 @@ pub record HasGroups (native : Arch) (groups : List (List ℕ)) (made grown line
 
 -- the same of what is told, where it was done
 abbrev pub TellsGrown : Arch → List (List ℕ) → List ℕ → Told → List ℕ → Type 0
-TellsGrown native groups made told lines = told.done ≡ true → HasGroups native groups made told.bytes.items lines
+TellsGrown native groups made told lines = was_done told.end ≡ true → HasGroups native groups made told.bytes.items lines
 
 -- a bundle with the calls of the groups was made of a profile, and these lines tell of them; or none was
 pub record HasLines (native : Arch) (groups : List (List ℕ)) (before : Policy) (lines : List ℕ) (grown : Grown) : Type 0 where
@@ -52,4 +53,4 @@ pub record HasLines (native : Arch) (groups : List (List ℕ)) (before : Policy)
   pub reported : string_bytes grown.lines ≡ lines
 
 abbrev pub TellsLines : Arch → List (List ℕ) → Policy → List ℕ → Grown → Type 0
-TellsLines native groups before lines grown = grown.told.done ≡ true → HasLines native groups before lines grown
+TellsLines native groups before lines grown = was_done grown.told.end ≡ true → HasLines native groups before lines grown

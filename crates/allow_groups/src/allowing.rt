@@ -27,7 +27,7 @@ fn rule_of(call: &MachineCall) -> Option<Rule>
     }
 }
 
-// The same, which there is of each call.
+// The rule that allows a call whatever its arguments. Each call has one.
 fn allowed(call: &MachineCall) -> Result<Rule, AllocError>
     ensures call { IfOk result (λ rule. spec.call_of rule ≡ call.now) }
     ensures allows { IfOk result spec.AllowsAll }

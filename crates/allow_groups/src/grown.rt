@@ -6,6 +6,7 @@ ghost use Rattle.allow_groups.specs.Allowed as spec;
 ghost use Rattle.allow_groups.specs.Report.{report};
 ghost use Rattle.call_groups.specs.Groups.{now_of};
 ghost use Rattle.together.specs.Combined.{MeansTogether};
+ghost use Rattle.wording.specs.Told.{was_done};
 ghost use Rattle.together.specs.declared.way.Way.TheVariants.{Laxest};
 
 use crate::allowing::allowing;
@@ -19,7 +20,7 @@ use profile::Profile;
 use profile_json::{ProfileError, read_bundle};
 use std::alloc::{AllocError, Global};
 use together::{Unjudged, Way, if_together};
-use wording::{Told, refused_profile};
+use wording::{End, Told, refused_profile};
 
 /// The bundle that was made, and the lines that tell what it allows.
 #[derive(Drop)]
@@ -91,7 +92,7 @@ fn told(alloc: Global, made: Result<String, Unjudged>, lines: String) -> Result<
         Ok(text) => Ok(Grown {
             told: Told {
                 bytes: text.into_bytes(),
-                done: true,
+                end: End::Done,
             },
             lines,
         }),
@@ -99,14 +100,14 @@ fn told(alloc: Global, made: Result<String, Unjudged>, lines: String) -> Result<
         Err(_) => Ok(Grown {
             told: Told {
                 bytes: Vec::new(alloc),
-                done: false,
+                end: End::No,
             },
             lines: String::from_str(alloc, NOT_WRITTEN)?,
         }),
     }
 }
 
-// The same of a profile that a bundle means.
+// The bundle that a profile and the calls of groups make, with its lines, or a line in its place.
 fn told_for(
     alloc: Global,
     native: Arch,
@@ -125,7 +126,7 @@ fn told_for(
 
 // What is told of a bundle that is refused.
 fn refused(alloc: Global, error: ProfileError) -> Result<Grown, AllocError>
-    ensures { IfOk result (λ grown. grown.told.done ≡ false) }
+    ensures { IfOk result (λ grown. was_done grown.told.end ≡ false) }
 {
     let told = refused_profile(alloc, error)?;
     Ok(Grown {

@@ -46,7 +46,7 @@ fn of_found(
     convictions_behind(alloc, document, filter, &behind, &judged)
 }
 
-// The same, if the evidence is a record.
+// The record that convicts a filter, if the evidence is one, and further ones that are of none of these calls.
 fn convictions_in(
     alloc: Global,
     document: &Document,

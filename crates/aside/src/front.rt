@@ -43,7 +43,7 @@ fn encoded(alloc: Global, insns: &[Insn]) -> Result<Vec<u8>, AllocError>
     Ok(bytes)
 }
 
-// The same, and others behind them.
+// The bytes of instructions, and other bytes behind them.
 fn spelled(alloc: Global, insns: &[Insn], rest: &[u8]) -> Result<Vec<u8>, AllocError>
     requires { length insns.now ≤ 6 }
     ensures { IfOk result (λ bytes. insns_of bytes.items ≡ insns.now ++ insns_of rest.now) }

@@ -137,7 +137,8 @@ fn judge_beside(
     })
 }
 
-// The same beside a bundle.
+// What is judged beside a bundle, apart from these calls. Where it spares the calls that the stub answers, they are not
+// asked about either.
 fn judge_left(
     alloc: Global,
     document: &Document,
@@ -169,7 +170,7 @@ fn next_in(family: Family, leave: Leave, evidence: &Evidence) -> Option<Calls>
     }
 }
 
-// The same of the record that was found, if one was.
+// The calls that may be left aside for the sake of the record that was found, if one was.
 fn next_of(family: Family, leave: Leave, judged: &Judged) -> Option<Calls>
     ensures { IfSome result (Leads family leave judged.now.evidence) }
 {

@@ -7,7 +7,7 @@ use certify::CertifyError;
 use maker::Unready;
 use rule_compile::CompileError;
 
-// The same position without the instructions in front.
+// Why a filter is not decided. A position is counted without the instructions in front.
 fn behind_front(error: CertifyError, front: u32) -> Unready
     ensures { IsUndecided result }
 {

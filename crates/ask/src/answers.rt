@@ -68,7 +68,7 @@ impl Answers {
         self.is_whole = false;
     }
 
-    /// The same, if there was no memory.
+    /// Keeps in mind that a question has no answer, if there was no memory to tell one.
     pub fn keep(&mut self, is_done: bool) {
         if !is_done {
             self.is_whole = false;

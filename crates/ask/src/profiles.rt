@@ -127,7 +127,7 @@ fn certified(out: &mut Answers, profile: &Profile, filter: &[u8]) -> Vec<u8> {
     Vec::new(out.alloc)
 }
 
-// The same of the certificate that follows each path of the filter.
+// Tells the bytes of the certificate that follows each path of the filter, or why there is none, and gives them.
 fn followed(out: &mut Answers, profile: &Profile, filter: &[u8]) -> Vec<u8> {
     let Ok(program) = Program::view(filter) else {
         out.fail();

@@ -40,7 +40,7 @@ fn put_line(
     put_hint(text, alloc, native, word, edits)
 }
 
-// The same with the names that are nearest.
+// Adds the line that says that a word is no call, and the names of native calls that are nearest.
 fn put_no_call(text: &mut String, alloc: Global, native: Arch, word: &str) -> Result<(), AllocError>
     ensures { IfOk result (λ _. (line : List ℕ) × spec.TellsNoCall native word.now line × (string_bytes text.new ≡ string_bytes text.old ++ line)) }
 {

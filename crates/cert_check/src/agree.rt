@@ -142,7 +142,7 @@ impl<S: State> Agreement<'_, S> {
         self.is_yes(place, rule)
     }
 
-    /// The same, of a rule without conditions alone.
+    /// Whether a rule at a place has no conditions, is of this number, says the verdict, and is left for the machine.
     pub(crate) fn says_alone_at(&self, place: usize, rule: &Rule, arch: Arch, nr: u32) -> bool
         requires { place < 8192 }
         ensures { IsTrue result → SaysAt (out_of self.now) (met_of self.now) (known_of self.now) self.now.word arch place rule.now }
@@ -253,7 +253,8 @@ impl<S: State> Agreement<'_, S> {
         self.profile.default_word() == self.word
     }
 
-    // The same. Where but one number is possible, the rules for other calls are not looked at.
+    // Whether the rules that are left for a machine agree with the verdict. Where one number alone is possible, the
+    // rules for other calls are skipped.
     fn all_rules_agree(&self, arch: Arch, likely: &mut Likely) -> bool
         requires told { AreTold self.now.profile.now (known_of self.now) self.now.word self.now.told.now }
         ensures { let a = self.now in IsTrue result ↔ RulesAgree a.profile.now (out_of a) (met_of a) (known_of a) a.word arch }

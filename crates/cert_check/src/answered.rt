@@ -112,7 +112,8 @@ pub(crate) fn ask<S: State>(
     ask_from(facts, mets, place, rule, asked, (usize::MAX, usize::MAX)).0
 }
 
-/// Whether it is so where none is said to be met, by what decided the rule at the nodes before; which is kept.
+/// As `ask`, without met conditions. Tries the condition that decided this rule last time first, and remembers the one
+/// that decides now.
 pub(crate) fn ask_likely<S: State>(
     facts: &Facts<'_, S>,
     place: usize,
@@ -131,7 +132,7 @@ pub(crate) fn ask_likely<S: State>(
     is_so
 }
 
-/// The same, as the last answer says if that was to the same question. Else this answer takes its place.
+/// As `ask_likely`, if this question is not the last one. Else its answer is returned once more.
 pub(crate) fn answer_of<'a, S: State>(
     facts: &Facts<'_, S>,
     place: usize,

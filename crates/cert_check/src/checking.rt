@@ -116,7 +116,8 @@ pub fn check<'a>(
     }
 }
 
-/// The same of a filter that the kernel accepts, of which nothing is lent.
+/// Whether the certificate shows that an accepted filter gives each call record the verdict that the profile says.
+/// Returns no more than yes, or the first rule that is broken.
 pub fn check_accepted(
     alloc: Global,
     profile: &Profile,

@@ -340,7 +340,7 @@ pub(crate) fn one_open<K: Knowledge>(
     None
 }
 
-/// The place of one of them that is no, if there is one.
+/// The index of a condition known to be false, if there is one.
 pub(crate) fn one_no<K: Knowledge>(
     known: &K,
     mets: &Mets<'_, '_>,

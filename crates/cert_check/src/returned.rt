@@ -63,7 +63,8 @@ fn agrees_with(
     agreement.agrees_in_all(likely)
 }
 
-// The same by a table for the conditions, in which none is marked yet.
+// Whether the profile says a verdict of all that a node knows, by a table for the conditions in which none is marked
+// yet.
 fn agrees_by(
     profile: &Profile,
     node: &NodeView<'_>,
@@ -80,8 +81,8 @@ fn agrees_by(
     agrees_with(profile, node, outs, Mets::of(node, table), word, scratch)
 }
 
-// The same where the profile has few rules. A table is made in a function of its own, and where the node names something
-// alone: so no other return makes room for it.
+// For up to 512 rules: whether the profile says a verdict of all that a node knows. The table is made in a function of
+// its own, for nodes that name a condition: no other return makes room for it.
 #[inline(never)]
 fn agrees_by_few(
     profile: &Profile,
@@ -103,7 +104,7 @@ fn agrees_by_few(
     )
 }
 
-// The same where it has some more.
+// For up to 2,048 rules: whether the profile says a verdict of all that a node knows.
 #[inline(never)]
 fn agrees_by_some(
     profile: &Profile,
@@ -125,7 +126,7 @@ fn agrees_by_some(
     )
 }
 
-// The same where it has many.
+// For up to 8,192 rules: whether the profile says a verdict of all that a node knows.
 #[inline(never)]
 fn agrees_by_many(
     profile: &Profile,
@@ -171,7 +172,7 @@ fn agrees_but_for(
     agrees_by_many(profile, node, outs, word, scratch)
 }
 
-// The same by a table of the rules that the node says to be out.
+// Whether the profile says a verdict of all that a node knows, by a table of the rules that the node says to be out.
 #[inline(never)]
 fn agrees_by_outs(profile: &Profile, node: &NodeView<'_>, word: Word, scratch: &mut Scratch) -> bool
     ensures { let n = says node.now in IsTrue result ↔ Agrees profile.now n.out n.met n.known word }
@@ -191,7 +192,8 @@ fn agrees_on(profile: &Profile, node: &NodeView<'_>, word: Word, scratch: &mut S
     agrees_by_outs(profile, node, word, scratch)
 }
 
-// The same, which is not found out again of a chain and a verdict of which it is kept that they agree.
+// Whether the profile says a verdict of all that a node knows. A chain and a verdict that are kept as agreeing are not
+// asked again.
 fn agrees_once(
     profile: &Profile,
     node: &NodeView<'_>,

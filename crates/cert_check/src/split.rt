@@ -53,7 +53,7 @@ fn cover(a: &Lit, b: &Lit) -> bool
     covers(a, b) || covers(b, a)
 }
 
-// The same by bits.
+// Whether two literals, in either order, cover each record by bits.
 fn cover_sharply(a: &Lit, b: &Lit) -> bool
     ensures { IsTrue result ↔ CoversSharply a.now b.now ⊎ CoversSharply b.now a.now }
 {

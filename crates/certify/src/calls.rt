@@ -62,7 +62,8 @@ fn begins_within(numbers: Numbers, low: u32, high: u32) -> bool
     false
 }
 
-// The same of one of several stretches.
+// Whether the last one of some numbers is in one of several foreign stretches, and the first one stands before that
+// stretch.
 fn begins(foreign: &[Numbers], low: u32, high: u32) -> bool
     ensures { IsTrue result ↔ Any (BeginsWithin low high) foreign.now }
 {

@@ -54,7 +54,8 @@ pub fn certify_accepted(
     }
 }
 
-/// The same of any program: where the kernel would not accept it, it is undecided.
+/// A certificate that the kernel accepts the program, and that it gives each call record the verdict that the profile
+/// says. A program that the kernel would not accept is undecided.
 pub fn certify(
     alloc: Global,
     profile: &Profile,

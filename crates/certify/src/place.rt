@@ -95,7 +95,7 @@ impl Place {
         sharp_fact(&here, insn, taken)
     }
 
-    /// The same place, where a literal is known too.
+    /// This place, where a literal is known too.
     pub(crate) fn knowing(self, literal: Lit) -> Next
         ensures { result ≡ record { pc = self.pc; regs = self.regs; learned = Some literal } }
     {

@@ -36,7 +36,7 @@ fn likely(known: &Chain<'_>, word: u8) -> u32 {
     number
 }
 
-// The same of two words, which are a number of 64 bits, the low half first.
+// A number of 64 bits that two words may have, the low half first, as far as one is easily found.
 fn likely_wide(known: &Chain<'_>, word: u8) -> u64 {
     let low = likely(known, word);
     let high = likely(known, word.saturating_add(1));

@@ -90,8 +90,8 @@ WritesFound held failures out out' native bundle filter rest answered whole all 
     ((all ≡ []) × WritesBehind held failures out out' native bundle filter rest answered whole result)
     ⊎ ((found : Conviction) × AreFoundBehind native bundle filter answered whole found all × WritesLines held failures out out' all result)
 
--- The same of all records that are found. On standard error are the calls that the stub answers. Behind them is an explanation of each
--- record whose line was written.
+-- What was written of all records that are found behind a stub. On standard error are the calls that the stub answers. Behind
+-- them is an explanation of each record whose line was written.
 pub record TellsAllBehind {O E : Type 0} (held : O → Option (List ℕ)) (failures : O → Failures) (out out' : O)
     (shown : E → Option (List ℕ)) (dropped : E → Failures) (err err' : E) (native : Arch) (bundle filter : List ℕ)
     (result : Result Bool WriteFault) : Type 0 where

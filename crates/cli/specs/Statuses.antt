@@ -29,7 +29,8 @@ pub record AreRightBehind (folder : Option Folder) (native : Arch) (bundle filte
   pub answered : List Calls
   pub right : MeansRight native b f answered
 
--- The same, but for calls that are left aside, each with reason.
+-- The bytes of one file are taken as a bundle. Those of the other are a filter that is right for it, apart from some calls. A
+-- stub in front of it answers them, or they are left aside, each with reason.
 pub record AreRightBut (folder : Option Folder) (native : Arch) (bundle filter : List ℕ) (leave : Leave) : Type 0 where
   pub b : List ℕ
   pub f : List ℕ

@@ -86,7 +86,7 @@ fn narrowed(alloc: Global, native: Arch, made: Adapted) -> Result<Both, AllocErr
 const PAST: &str =
     "ccell: lint reports calls that get past this bundle; narrow behind the file keeps them out\n";
 
-// The same, if a call is stopped by it.
+// Behind the changes, if a call is stopped by the bundle that was made.
 const STOPPED: &str =
     "ccell: lint reports calls that this bundle stops by bits that Linux does not read; narrow behind the file ends that\n";
 
@@ -186,7 +186,7 @@ fn made_as(
     Ok(both)
 }
 
-// The same of a configuration by its name.
+// What is made of a configuration by its name. Where no word asks for anything, it means what the file does.
 fn made_of_file<'a, F: Files>(
     alloc: Global,
     native: Arch,
@@ -224,7 +224,7 @@ fn bundle_of<'a, F: Files>(
     }
 }
 
-// The same with the calls of the groups that are among the words.
+// Makes a bundle of an engine's configuration, with the calls of the groups that are among the words.
 fn grown_of<'a, F: Files>(
     alloc: Global,
     native: Arch,

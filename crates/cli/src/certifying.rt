@@ -16,8 +16,7 @@ use machines::Arch;
 use std::alloc::Global;
 use texts::Sink;
 
-// Writes a certificate that a filter answers what a bundle says, or what tells that it has none. A record that convicts the
-// filter is told in plain sentences too.
+// Writes a certificate, or why there is none. A record that convicts the filter is told in plain sentences too.
 fn certify<'a, F: Files, O: Sink, E: Sink>(
     alloc: Global,
     native: Arch,
@@ -39,7 +38,7 @@ fn certify<'a, F: Files, O: Sink, E: Sink>(
     Ok(comparing::certify(alloc, &document, &filter, out, err)?)
 }
 
-// The same where no calls may be left aside.
+// Writes a certificate, or why there is none, where no calls may be left aside.
 fn certify_as<'a, F: Files, O: Sink, E: Sink>(
     alloc: Global,
     parts: Parts<'a>,

@@ -78,7 +78,7 @@ fn stack_of(alloc: Global, native: Arch, files: &[Vec<u8>]) -> Result<Both, Allo
     }
 }
 
-// The same of bundles by their names.
+// What the bundles with these names mean together.
 fn combined_of_files<'a, F: Files>(
     alloc: Global,
     native: Arch,
@@ -97,7 +97,7 @@ fn combined_of_files<'a, F: Files>(
     }
 }
 
-// The same of filters by their names.
+// What the filters with these names mean together.
 fn stack_of_files<'a, F: Files>(
     alloc: Global,
     native: Arch,

@@ -51,7 +51,7 @@ fn explained(alloc: Global, document: &Document, call: &[&str]) -> Result<Told, 
     }
 }
 
-// The same of a bundle that was read, or want of memory.
+// Tells what a bundle that was read says of a call, unless memory runs out.
 fn told<'a>(alloc: Global, document: &Document, call: &[&str]) -> Result<Told, Stop<'a>>
     ensures { TellsText (spec.explained_as document.now.native (map (λ c. c.now) call.now)
         (spec.any_call (map (λ c. c.now) call.now)) document.now.bytes) result }

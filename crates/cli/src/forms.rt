@@ -39,7 +39,7 @@ const TAKEN: &str =
     "ccell: this section is what docker and podman take behind --security-opt seccomp=, and Kubernetes as a Localhost \
     profile; bundle as the last word writes the config.json of runc and crun\n";
 
-// The same where none can be.
+// Behind what was changed, where no section can be written.
 const NOT_WRITTEN: &str =
     "ccell: nothing is written, since no section means the same; bundle as the last word writes the bundle\n";
 
@@ -106,7 +106,7 @@ fn formed(alloc: Global, native: Arch, as_bundle: bool, both: Both) -> Result<Bo
     as_engines_take(alloc, native, both)
 }
 
-/// The same, unless the program stopped before.
+/// What was made, in the form that is asked for, unless the program stopped before.
 pub(crate) fn in_form<'a>(
     alloc: Global,
     native: Arch,

@@ -79,7 +79,7 @@ fn grown(alloc: Global, native: Arch, groups: &[&str], both: Both) -> Result<Bot
     Ok(Both { told: new, changes })
 }
 
-// The same, if groups are named.
+// What was made, with the calls of groups if any are named.
 fn grown_if(alloc: Global, native: Arch, groups: &[&str], both: Both) -> Result<Both, AllocError>
     ensures { IfOk result (λ new. IsGrown native (map (λ g. g.now) groups.now) both.told new.told) }
 {
@@ -89,7 +89,7 @@ fn grown_if(alloc: Global, native: Arch, groups: &[&str], both: Both) -> Result<
     }
 }
 
-// The same, unless the program stopped before.
+// What was made, with the calls of the named groups, unless the program stopped before.
 fn grown_unless<'a>(
     alloc: Global,
     native: Arch,

@@ -152,7 +152,7 @@ fn learned_by<'a, F: Files>(
     }
 }
 
-// The same with the calls of the groups that are among the words.
+// Makes a bundle of a profile and logs, or of logs alone, with the calls of the groups that are among the words.
 fn grown_of<'a, F: Files>(
     alloc: Global,
     native: Arch,
@@ -225,7 +225,7 @@ fn played(
     replay(alloc, native, bundle, &logs, tells_unused)
 }
 
-// The same of logs by their names.
+// What a bundle says of the calls of the logs with these names.
 fn played_each<'a, F: Files>(
     alloc: Global,
     native: Arch,
@@ -246,7 +246,7 @@ fn played_each<'a, F: Files>(
     }
 }
 
-// The same of a bundle by its name.
+// What the bundle with this name says of the calls of the logs with these names.
 fn played_bundle<'a, F: Files>(
     alloc: Global,
     native: Arch,

@@ -75,7 +75,7 @@ fn write_objects<'a, O: Sink, E: Sink>(
     }
 }
 
-// The same of an answer, unless there is no memory for the objects.
+// Writes the objects of an answer, unless there is no memory for them, and what the command explained behind them.
 fn write_made<'a, O: Sink, E: Sink>(
     objects: Result<Vec<u8>, AllocError>,
     outcome: Result<bool, Stop<'a>>,

@@ -238,7 +238,7 @@ fn bundle_by(alloc: Global, native: Arch, words: &[&str], filter: &[u8]) -> Resu
     bundle_left(alloc, native, words, filter)
 }
 
-// The same of a filter by its name.
+// The bundle for which the words ask, of a filter by its name, or why none was found.
 fn bundle_of_file<'a, F: Files>(
     alloc: Global,
     native: Arch,

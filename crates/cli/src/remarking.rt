@@ -77,7 +77,7 @@ fn remark<F: Files, E: Sink>(
     }
 }
 
-// The same of each name, in order.
+// Writes, for each name in order, what is told of its file, if that can be read once more.
 fn remark_each<F: Files, E: Sink>(
     alloc: Global,
     command: Command,

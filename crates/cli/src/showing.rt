@@ -79,7 +79,7 @@ fn past_line(is: bool) -> &'static str
     }
 }
 
-// The same, if a call is stopped by it.
+// Behind what a bundle means, if a call is stopped by it.
 fn stopped_line(is: bool) -> &'static str
     ensures { result.now ≡ spec.stopped_line is }
 {
@@ -100,7 +100,7 @@ fn with_hint(told: Told, hint: Hinted) -> Result<Told, AllocError>
     Ok(Told { bytes, done })
 }
 
-// The same, if the bundle is not refused.
+// What was told. If the bundle is not refused, the lines of what `lint` has to report stand behind it.
 fn hinted(alloc: Global, document: &Document, told: Told) -> Result<Told, AllocError>
     ensures { (meaning : TheTold) → IsReadOut document.now.native document.now.bytes meaning
         → HasNames document.now.native document.now.bytes meaning told

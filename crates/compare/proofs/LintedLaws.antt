@@ -3,7 +3,7 @@ use Rattle.std.proofs.Common.{ℕ, ◌≡◌, ◌++◌, false, List, inl, inr}
 use Rattle.std.proofs.lemmas.Bool.{both_ways}
 use Rattle.std.specs.Prelude.{◌≢◌, IfOk, IfSome, Result, Ok, Err, codes}
 use Rattle.machines.specs.declared.arch.Arch.{Arch}
-use Rattle.wording.specs.Told.{TellsLine}
+use Rattle.wording.specs.Told.{RefusesBy}
 use Rattle.wording.specs.declared.told.Told.{Told}
 use Rattle.profile_json.specs.Breaks.{Breaks}
 use Rattle.profile_json.specs.Fault.{fault_of, text_of}
@@ -16,7 +16,7 @@ use Rattle.compare.specs.Linted.{IsJudged, IsLinted}
 module _ {E : Type 0} (native : Arch) (bundle : List ℕ) where
   -- the bundle is refused
   pub is_refused : (e : ProfileError) (r : Result Told E) → IfSome (fault_of e) (Breaks bundle native)
-      → IfOk r (λ told. e ≢ OutOfMemory) → IfOk r (TellsLine (codes "refused profile " ++ text_of e)) → IfOk r (IsLinted native bundle)
+      → IfOk r (λ told. e ≢ OutOfMemory) → IfOk r (RefusesBy (codes "refused profile " ++ text_of e)) → IfOk r (IsLinted native bundle)
   is_refused e (Ok told) stands fault line = inl (record { error = e; is_fault = fault; stands = stands; tells = line })
   is_refused e (Err x) stands fault line = line
 

@@ -1,5 +1,5 @@
 -- What is told of two filters.
-use Rattle.std.specs.Prelude.{ℕ, ◌≡◌, ◌≢◌, Bool, true, false, ◌⊎◌, List, [], ◌∷◌, ◌++◌, Some, codes}
+use Rattle.std.specs.Prelude.{ℕ, ◌≡◌, ◌≢◌, ◌⊎◌, List, [], ◌∷◌, ◌++◌, Some, codes}
 use Rattle.std.specs.Fmt.{decimal}
 use Rattle.std.specs.List.{All, flat_map}
 use Rattle.texts.specs.Lines.{line_feed}
@@ -10,9 +10,11 @@ use Rattle.bpf_insn.specs.declared.instruction.Insn.{Insn}
 use Rattle.bpf_insn.specs.declared.fault.ViewError.{ViewError}
 use Rattle.bpf_insn.specs.Bytes.{insns_of, view_fault}
 use Rattle.bpf_insn.specs.Fault.{text_of as fault_text}
-use Rattle.kernel_check.specs.declared.fault.Refused.{Refused}
+use Rattle.kernel_check.specs.declared.fault.Refused.{Refused as KernelRefused}
 use Rattle.kernel_check.specs.Accepted.{IsRefusal}
 use Rattle.kernel_check.specs.Fault.{text_of as refusal_text}
+use Rattle.wording.specs.declared.told.End.{End}
+use Rattle.wording.specs.declared.told.End.TheVariants.{Done, No, Refused}
 use Rattle.wording.specs.declared.told.Told.{Told}
 use Rattle.compare.specs.Behind.{AreAccepted}
 use Rattle.compare.specs.Outcome.{line_of}
@@ -47,7 +49,7 @@ IsOutcome family old new other = IsWrong old 1 other ⊎ IsWrong new 2 other
 abbrev pub view_line : ViewError → ℕ → List ℕ
 view_line e place = codes "refused view " ++ fault_text e ++ codes ", filter " ++ decimal place ++ line_feed ∷ []
 
-abbrev pub kernel_line : Refused → ℕ → List ℕ
+abbrev pub kernel_line : KernelRefused → ℕ → List ℕ
 kernel_line e place = codes "refused kernel " ++ refusal_text e ++ codes ", filter " ++ decimal place ++ line_feed ∷ []
 
 -- the text that says it
@@ -58,14 +60,17 @@ text_of NoneFound = codes "none found\n"
 text_of (NoProgram e place) = view_line e place
 text_of (Refusal e place) = kernel_line e place
 
-abbrev pub is_done : Outcome → Bool
-is_done Same = true
-is_done other = false
+-- how the command ends
+abbrev pub ends : Outcome → End
+ends Same = Done
+ends (Differ changes) = No
+ends NoneFound = No
+ends (NoProgram e place) = Refused
+ends (Refusal e place) = Refused
 
--- What is told is the text of what is so, by the names that the family of a native machine has. It was done only of filters with the same
--- bytes.
+-- What is told is the text of what is so, by the names that the family of a native machine has.
 pub record IsTold (native : Arch) (old new : List ℕ) (told : Told) : Type 0 where
   pub outcome : Outcome
   pub is : IsOutcome (family_of native) old new outcome
   pub text : told.bytes.items ≡ text_of outcome
-  pub done : told.done ≡ is_done outcome
+  pub end : told.end ≡ ends outcome

@@ -1,11 +1,13 @@
 -- What `ccell compare` tells of two bundles.
-use Rattle.std.specs.Prelude.{ℕ, ◌≡◌, ◌≢◌, ◌⊎◌, Bool, false, List, [], ◌∷◌, ◌++◌, IfSome, codes}
+use Rattle.std.specs.Prelude.{ℕ, ◌≡◌, ◌≢◌, ◌⊎◌, Bool, List, [], ◌∷◌, ◌++◌, IfSome, codes}
 use Rattle.std.specs.Fmt.{decimal}
 use Rattle.serde_json.specs.Data.{Data}
 use Rattle.texts.specs.Lines.{line_feed}
 use Rattle.machines.specs.declared.arch.Arch.{Arch}
 use Rattle.machines.specs.declared.arch.Family.{Family}
 use Rattle.machines.specs.Arch.{family_of}
+use Rattle.wording.specs.Told.{end_of}
+use Rattle.wording.specs.declared.told.End.TheVariants.{Refused}
 use Rattle.wording.specs.declared.told.Told.{Told}
 use Rattle.profile.specs.Policy.{Policy}
 use Rattle.profile_json.specs.Breaks.{Breaks}
@@ -33,11 +35,11 @@ refusal_line place e = codes "refused profile " ++ refusal_text e ++ codes ", bu
 pub record TellsRefusal (place : ℕ) (e : ProfileError) (told : Told) : Type 0 where
   pub is_fault : e ≢ OutOfMemory
   pub bytes : told.bytes.items ≡ refusal_line place e
-  pub done : told.done ≡ false
+  pub end : told.end ≡ Refused
 
 pub record TellsComparison (atmost : Bool) (comparison : Comparison) (told : Told) : Type 0 where
   pub bytes : told.bytes.items ≡ text_of comparison
-  pub done : told.done ≡ is_done atmost comparison
+  pub end : told.end ≡ end_of (is_done atmost comparison)
 
 -- the bundle is refused for a fault that it has
 pub record IsRefused (native : Arch) (bundle : List ℕ) (place : ℕ) (told : Told) : Type 0 where

@@ -39,7 +39,7 @@ fn is_same_name(arch: Arch, nr: u32, machine: Arch, other: u32) -> bool
     }
 }
 
-// The same of different machines.
+// Whether two differences are of two machines, and of one name or of one number without a name.
 fn has_name_of(one: &Difference, other: &Difference) -> bool
     ensures { IsTrue result → name_of other.now.arch other.now.nr ≡ name_of one.now.arch one.now.nr }
 {

@@ -30,7 +30,7 @@ pub enum Comparison {
     Same,
     /// All calls of which they say unlike verdicts, and what the second allows beside the first.
     Differ(Vec<Change>, Sides),
-    /// The same, but for these calls.
+    /// All calls that are found with unlike verdicts, and the calls that are not decided.
     Undecided(Vec<Change>, Vec<Crowded>),
 }
 

@@ -3,7 +3,7 @@
 /// What a second profile allows beside a first one.
 #[derive(Clone, Copy, Debug, PartialEq, Eq)]
 pub enum Sides {
-    /// The same calls.
+    /// No call more, and none less.
     Alike,
     /// No call more, and some less.
     NoMore,

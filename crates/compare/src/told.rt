@@ -9,7 +9,7 @@ use machines::Arch;
 use profile::Profile;
 use profile_json::{Document, ProfileError};
 use std::alloc::{AllocError, Global};
-use wording::Told;
+use wording::{End, Told};
 
 // The line that tells why the bundle at a place is refused.
 fn refusal_line(alloc: Global, error: ProfileError, place: u32) -> Result<String, AllocError>
@@ -28,7 +28,7 @@ fn refused(alloc: Global, error: ProfileError, place: u32) -> Result<Told, Alloc
     let line = refusal_line(alloc, error, place)?;
     Ok(Told {
         bytes: line.into_bytes(),
-        done: false,
+        end: End::Refused,
     })
 }
 
@@ -39,7 +39,7 @@ fn told(alloc: Global, comparison: &Comparison, atmost: bool) -> Result<Told, Al
     let text = text_of(alloc, comparison)?;
     Ok(Told {
         bytes: text.into_bytes(),
-        done: is_done(atmost, comparison),
+        end: End::of(is_done(atmost, comparison)),
     })
 }
 

@@ -174,7 +174,7 @@ fn add_other(
     Ok(())
 }
 
-// The same in each direction.
+// Adds records of a call that no rule is for, in each direction in turn.
 fn add_rest(
     alloc: Global,
     first: &Profile,
@@ -192,7 +192,7 @@ fn add_rest(
     Ok(())
 }
 
-// The same of calls.
+// Adds records of calls that no rule is for, in each direction.
 fn add_all_rest(
     alloc: Global,
     first: &Profile,
@@ -251,7 +251,7 @@ fn add_each_in(
     Ok(())
 }
 
-// The same of calls that no rule is for.
+// Adds what is found in a direction of calls that no rule is for.
 fn add_rest_in(
     alloc: Global,
     first: &Profile,

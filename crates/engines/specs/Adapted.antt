@@ -11,12 +11,13 @@ use Rattle.profile_json.specs.Keys as key
 use Rattle.profile_json.specs.Meaning.{IsText, Means, VerdictMeans}
 use Rattle.engines.specs.declared.settling.choice.Choice.{Choice}
 use Rattle.engines.specs.Settled.{Settles}
+use Rattle.wording.specs.Told.{was_done}
 use Rattle.wording.specs.declared.told.Told.{Told}
 use Rattle.engines.specs.declared.adapted.Adapted.{Adapted}
 
 -- where it was done: the draft itself, a bundle that means a profile
 abbrev pub IsRead : Arch → List ℕ → Told → Type 0
-IsRead native draft told = told.done ≡ true
+IsRead native draft told = was_done told.end ≡ true
     → (told.bytes.items ≡ draft) × (t : Data) × (p : Policy) × IsText draft t × Means t native p
 
 -- The bytes are a bundle, and its profile settles the rules that the entries of the draft say. Of each record it says what one
@@ -37,7 +38,7 @@ pub record SettlesDraft (native : Arch) (choice : Choice) (draft bytes : List �
 
 -- where it was done: such a bundle
 abbrev pub IsSettled : Arch → Choice → List ℕ → Told → Type 0
-IsSettled native choice draft told = told.done ≡ true → SettlesDraft native choice draft told.bytes.items
+IsSettled native choice draft told = was_done told.end ≡ true → SettlesDraft native choice draft told.bytes.items
 
 -- the draft, which means a profile; where a choice is made, a bundle that settles the draft
 abbrev pub IsMade : Arch → Option Choice → List ℕ → Told → Type 0

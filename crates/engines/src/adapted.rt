@@ -1,6 +1,7 @@
 //! What an adapted configuration gives.
 ghost use Rattle.std.specs.Prelude.{◌≡◌, IfOk, false};
 ghost use Rattle.engines.specs.Adapted.{IsAdapted};
+ghost use Rattle.wording.specs.Told.{was_done};
 
 use crate::actions::text_at;
 use crate::bundle::bundle_of;
@@ -19,7 +20,7 @@ use show::{Doubled, Trimmed, fault_of, without_unread};
 use std::alloc::{AllocError, Global};
 use wording::{Told, refused_profile};
 
-/// What an adapted configuration gives. It is the bundle, or why there is none. It is also the draft, which is the bundle
+/// What an adapted configuration gives. It is the bundle, or why there is none. It is doubtful if a name was left out that is near to a known one. It is also the draft, which is the bundle
 /// before overlaps are settled, and what was changed, a line each.
 #[derive(Drop)]
 pub struct Adapted {
@@ -30,8 +31,8 @@ pub struct Adapted {
 
 // What tells that there is no bundle, and why.
 fn refused(alloc: Global, told: Told, why: String) -> Adapted
-    requires { told.done ≡ false }
-    ensures { result.told.done ≡ false }
+    requires { was_done told.end ≡ false }
+    ensures { was_done result.told.end ≡ false }
 {
     Adapted {
         told,
@@ -42,7 +43,7 @@ fn refused(alloc: Global, told: Told, why: String) -> Adapted
 
 // What tells where and why a text is no JSON, and what it is, if that is known.
 fn no_json(alloc: Global, native: Arch, config: &[u8], error: &Error) -> Result<Adapted, AllocError>
-    ensures { IfOk result (λ a. a.told.done ≡ false) }
+    ensures { IfOk result (λ a. was_done a.told.end ≡ false) }
 {
     if error.is_memory() {
         return Err(AllocError);
@@ -66,7 +67,7 @@ fn why_no_section(native: Arch, config: &Value) -> &'static str {
 
 // What tells that there is no section.
 fn no_section(alloc: Global, native: Arch, config: &Value) -> Result<Adapted, AllocError>
-    ensures { IfOk result (λ a. a.told.done ≡ false) }
+    ensures { IfOk result (λ a. was_done a.told.end ≡ false) }
 {
     let why = String::from_str(alloc, why_no_section(native, config))?;
     let told = refused_profile(alloc, ProfileError::NoSeccomp)?;
@@ -75,7 +76,7 @@ fn no_section(alloc: Global, native: Arch, config: &Value) -> Result<Adapted, Al
 
 // What tells that a key stands twice.
 fn stands_twice(alloc: Global, doubled: &Doubled) -> Result<Adapted, AllocError>
-    ensures { IfOk result (λ a. a.told.done ≡ false) }
+    ensures { IfOk result (λ a. was_done a.told.end ≡ false) }
 {
     let place = doubled.place.as_str();
     let (line, column) = doubled.first;
@@ -84,6 +85,17 @@ fn stands_twice(alloc: Global, doubled: &Doubled) -> Result<Adapted, AllocError>
         "{place}: stands twice, at line {line}, column {column} and at line {other}, column {its_column}: write it once\n"
     )?;
     Ok(refused(alloc, nothing(alloc), why))
+}
+
+// What is told, as doubtful if a name that is not known may mean a known one.
+fn doubted(told: Told, is_doubtful: bool) -> Told
+    ensures bytes { result.bytes ≡ told.bytes }
+    ensures done { was_done result.end ≡ was_done told.end }
+{
+    Told {
+        bytes: told.bytes,
+        end: told.end.doubted(is_doubtful),
+    }
 }
 
 // What a section gives.
@@ -106,6 +118,7 @@ fn adapt_section(
     let draft = bundle_of(alloc, &mut changes, &settings, config, section)?;
     let source = Source { config, section };
     let told = made(alloc, &mut changes, &settings, source, &draft)?;
+    let told = doubted(told, changes.are_doubtful());
     Ok(Adapted {
         told,
         draft: draft.text,

@@ -90,6 +90,11 @@ impl Changes {
         ));
     }
 
+    /// Whether a name that is not known may mean a known one.
+    pub(crate) fn are_doubtful(&self) -> bool {
+        !self.near.is_empty()
+    }
+
     /// All lines, the near names last.
     pub(crate) fn whole(self) -> Result<String, AllocError> {
         let near = self.near.whole()?;

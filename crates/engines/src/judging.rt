@@ -1,29 +1,30 @@
 //! Bundles in which overlaps are settled.
 ghost use Rattle.std.specs.Prelude.{◌≡◌, IfOk, false, true, string_bytes};
 ghost use Rattle.engines.specs.Adapted.{IsSettled};
+ghost use Rattle.wording.specs.Told.{was_done};
 
 use crate::heads::have_same_head;
 use crate::settling::{Choice, is_settled};
 use machines::Arch;
 use profile_json::{ProfileError, read_bundle, rules_by_entry};
 use std::alloc::{AllocError, Global};
-use wording::Told;
+use wording::{End, Told};
 
 /// What tells that there is no bundle, and nothing more on standard output.
 pub(crate) fn nothing(alloc: Global) -> Told
-    ensures { result.done ≡ false }
+    ensures { was_done result.end ≡ false }
 {
     Told {
         bytes: Vec::new(alloc),
-        done: false,
+        end: End::No,
     }
 }
 
 // The bundle, if its profile settles the rules, and it says the same beside its entries.
 fn told_if(is_settled: bool, has_same_head: bool, alloc: Global, bundle: String) -> Told
-    ensures settled { result.done ≡ true → is_settled ≡ true }
-    ensures same_head { result.done ≡ true → has_same_head ≡ true }
-    ensures written { result.done ≡ true → result.bytes.items ≡ string_bytes bundle }
+    ensures settled { was_done result.end ≡ true → is_settled ≡ true }
+    ensures same_head { was_done result.end ≡ true → has_same_head ≡ true }
+    ensures written { was_done result.end ≡ true → result.bytes.items ≡ string_bytes bundle }
 {
     if !is_settled {
         return nothing(alloc);
@@ -33,7 +34,7 @@ fn told_if(is_settled: bool, has_same_head: bool, alloc: Global, bundle: String)
     }
     Told {
         bytes: bundle.into_bytes(),
-        done: true,
+        end: End::Done,
     }
 }
 

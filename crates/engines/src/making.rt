@@ -1,6 +1,7 @@
 //! Bundles made of a section.
 ghost use Rattle.std.specs.Prelude.{◌≡◌, IfOk, false, Some, None, string_bytes};
 ghost use Rattle.engines.specs.Adapted.{IsMade, IsRead, IsSettled};
+ghost use Rattle.wording.specs.Told.{was_done};
 
 use crate::bundle::{Bundle, bundle_of};
 use crate::changes::Changes;
@@ -15,7 +16,7 @@ use profile_json::{ProfileError, read_bundle, rules_by_entry};
 use serde_json::Value;
 use show::{Configuration, fault_in};
 use std::alloc::{AllocError, Global};
-use wording::{Told, refused_profile};
+use wording::{End, Told, refused_profile};
 
 /// A configuration, and its section.
 #[derive(Clone, Copy)]
@@ -83,7 +84,7 @@ fn refusal(
     bundle: &Bundle,
     error: ProfileError,
 ) -> Result<Told, AllocError>
-    ensures { IfOk result (λ told. told.done ≡ false) }
+    ensures { IfOk result (λ told. was_done told.end ≡ false) }
 {
     let top = source.section.top;
     match error {
@@ -122,7 +123,7 @@ fn whole(alloc: Global, bytes: &[u8]) -> Result<Told, AllocError>
 {
     Ok(Told {
         bytes: Vec::from_slice(alloc, bytes)?,
-        done: true,
+        end: End::Done,
     })
 }
 

@@ -204,7 +204,7 @@ pub(crate) fn tell_listed(
     }
 }
 
-/// The same of an operator.
+/// Tells which operator may be meant by a name that is none of these.
 pub(crate) fn tell_operator(
     changes: &mut Changes,
     place: Place<'_>,

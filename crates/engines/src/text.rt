@@ -59,6 +59,11 @@ impl Text {
         self.is_whole = false;
     }
 
+    /// Whether nothing was added.
+    pub(crate) fn is_empty(&self) -> bool {
+        self.text.is_empty()
+    }
+
     /// All that was added.
     pub(crate) fn whole(self) -> Result<String, AllocError> {
         if self.is_whole {

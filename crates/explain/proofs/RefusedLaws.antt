@@ -6,7 +6,7 @@ use Rattle.machines.specs.declared.arch.Arch.{Arch}
 use Rattle.machines.specs.declared.arch.Family.{Family}
 use Rattle.machines.specs.declared.arch.Family.TheVariants.{Chosen, Whole}
 use Rattle.machines.specs.Arch.{family_of}
-use Rattle.wording.specs.Told.{TellsLine}
+use Rattle.wording.specs.Told.{RefusesBy}
 use Rattle.wording.specs.declared.told.Told.{Told}
 use Rattle.call_words.specs.Wrong.{TellsWrong}
 use Rattle.explain.specs.Asked.{are_bytes}
@@ -29,12 +29,12 @@ module _ (family : Family) (TellsWhy : List ℕ → Type 0) (old new : List ℕ)
   one_reason reason (Err x) e h = tt
 
 pub refuses : {E : Type 0} (native : Arch) (TellsWhy : List ℕ → Type 0) (old new : List ℕ) (r : Result Told E) → old ≡ codes "refused call"
-    → (line : List ℕ) × is_reason (family_of native) TellsWhy line × (new ≡ old ++ line) → IfOk r (TellsLine new)
+    → (line : List ℕ) × is_reason (family_of native) TellsWhy line × (new ≡ old ++ line) → IfOk r (RefusesBy new)
     → IfOk r (Refuses native TellsWhy)
 refuses native TellsWhy old new (Ok told) e (line, is, same) h = record {
   reason = line;
   is_one = is;
-  tells = subst (λ l. TellsLine l told) (same ∙ ap (λ o. o ++ line) e) h;
+  tells = subst (λ l. RefusesBy l told) (same ∙ ap (λ o. o ++ line) e) h;
 }
 refuses native TellsWhy old new (Err x) e (line, is, same) h = tt
 

@@ -14,6 +14,7 @@ use Rattle.profile.specs.declared.rules.Rule.{Rule}
 use Rattle.profile.specs.Policy.{Policy}
 use Rattle.script.specs.Grammar.{LineIs}
 use Rattle.script.specs.Commands.{Call}
+use Rattle.wording.specs.declared.told.End.TheVariants.{Done}
 use Rattle.wording.specs.declared.told.Told.{Told}
 use Rattle.wording.specs.Phrases.{action_text, call_on, condition_text, machine_with}
 use Rattle.wording.specs.Reason.{entry_at}
@@ -93,7 +94,7 @@ pub record TellsAny (native : Arch) (bundle word : List ℕ) (told : Told) : Typ
   pub nr : ℕ
   pub is_what : IsWhat native word arch nr
   pub explains : ExplainsAny native bundle (token_of arch) nr told.bytes.items
-  pub done : told.done ≡ true
+  pub end : told.end ≡ Done
 
 abbrev pub IsExplained : Arch → List ℕ → List ℕ → Told → Type 0
 IsExplained native bundle word told =

@@ -1,5 +1,5 @@
 -- What is told of the lines that a kernel's audit writes of filters, as dmesg, journald, auditd and `ausearch -i` show them.
-use Rattle.std.specs.Prelude.{ℕ, ◌≡◌, ◌≢◌, ◌⊎◌, ◌↔◌, ◌==◌, ◌-◌, ◌^◌, ◌&&◌, ◌||◌, nat_lt, not, Bool, true, false, if◌then◌else◌, List, [], ◌∷◌}
+use Rattle.std.specs.Prelude.{ℕ, ◌≡◌, ◌≢◌, ◌⊎◌, ◌==◌, ◌-◌, ◌^◌, ◌&&◌, ◌||◌, nat_lt, not, Bool, true, false, if◌then◌else◌, List, [], ◌∷◌}
 use Rattle.std.specs.Prelude.{◌++◌, Option, Some, None, codes, count_by, filter_map, is_none, is_some, length, map, option_and_then, take}
 use Rattle.std.specs.Fmt.{decimal}
 use Rattle.std.specs.List.{All, list_any, slice_split}
@@ -19,7 +19,7 @@ use Rattle.profile.specs.declared.rules.Rule.{Rule}
 use Rattle.profile.specs.Policy.{Policy}
 use Rattle.wording.specs.Lines.{lines_of}
 use Rattle.wording.specs.Phrases.{action_text, call_on, hexadecimal, machine_with}
-use Rattle.wording.specs.Told.{RefusesBundle, TellsLine}
+use Rattle.wording.specs.Told.{EndsBy, RefusesBundle, RefusesBy}
 use Rattle.wording.specs.Understood.{IsReadAs}
 use Rattle.wording.specs.declared.told.Told.{Told}
 use Rattle.explain.specs.Answers.{may_answer}
@@ -309,14 +309,14 @@ audit_text family p rules ends events unread =
 pub record RefusesLines (events : List Event) (unread : ℕ) (told : Told) : Type 0 where
   pub none : events ≡ []
   pub all_read : unread ≡ 0
-  pub tells : TellsLine (codes "refused lines: none has arch, syscall and code") told
+  pub tells : RefusesBy (codes "refused lines: none has arch, syscall and code") told
 
--- Each event is told once. It is done just where the profile may answer so to each, and each line is read.
+-- Each event is told once. It is done if the profile may answer so to each and each line is read, and no otherwise.
 pub record TellsEvents (family : Family) (p : Policy) (rules : List Rule) (ends : List ℕ) (events : List Event) (unread : ℕ)
     (told : Told) : Type 0 where
   pub some : (events ≢ []) ⊎ (unread ≢ 0)
   pub tells : told.bytes.items ≡ audit_text family p rules ends events unread
-  pub done : (told.done ≡ true) ↔ (All (MayBe p) events × (unread ≡ 0))
+  pub ends : EndsBy (All (MayBe p) events × (unread ≡ 0)) told.end
 
 abbrev pub AnswersEvents : Family → Policy → List Rule → List ℕ → List Event → ℕ → Told → Type 0
 AnswersEvents family p rules ends events unread told = RefusesLines events unread told ⊎ TellsEvents family p rules ends events unread told

@@ -7,7 +7,7 @@ use Rattle.machines.specs.declared.arch.Family.{Family}
 use Rattle.machines.specs.declared.arch.Family.TheVariants.{Chosen, Whole}
 use Rattle.machines.specs.Arch.{family_of}
 use Rattle.call_words.specs.Wrong.{TellsWrong}
-use Rattle.wording.specs.Told.{TellsLine}
+use Rattle.wording.specs.Told.{RefusesBy}
 use Rattle.wording.specs.declared.told.Told.{Told}
 use Rattle.explain.specs.Asked.{are_bytes}
 
@@ -16,11 +16,11 @@ abbrev pub is_reason : Family → (List ℕ → Type 0) → List ℕ → Type 0
 is_reason Chosen TellsWhy reason = reason ≡ []
 is_reason Whole TellsWhy reason = TellsWhy reason
 
--- nothing was done: the line `refused call` is told, and the reason behind it
+-- the line `refused call` is told, and the reason behind it
 pub record Refuses (native : Arch) (TellsWhy : List ℕ → Type 0) (told : Told) : Type 0 where
   pub reason : List ℕ
   pub is_one : is_reason (family_of native) TellsWhy reason
-  pub tells : TellsLine (codes "refused call" ++ reason) told
+  pub tells : RefusesBy (codes "refused call" ++ reason) told
 
 -- the line says that the digits are not those of a record
 abbrev pub no_record : List ℕ

@@ -1,5 +1,5 @@
 -- What commands answer.
-use Rattle.std.specs.Prelude.{ℕ, ◌≡◌, ◌≢◌, ◌⊎◌, true, List, ◌++◌, None, length, codes}
+use Rattle.std.specs.Prelude.{ℕ, ◌≡◌, ◌≢◌, ◌⊎◌, List, ◌++◌, None, length, codes}
 use Rattle.std.specs.Str.{IsUtf8}
 use denote.Ref.{Bor}
 use Rattle.machines.specs.declared.arch.Arch.{Arch}
@@ -12,7 +12,8 @@ use Rattle.bpf_asm.specs.Faults.{Explains as IsListingFault}
 use Rattle.bpf_asm.specs.Listing.{listing}
 use Rattle.bpf_asm.specs.declared.fault.AsmError.{AsmError}
 use Rattle.bpf_asm.specs.declared.fault.AsmError.TheVariants.{OutOfMemory as NoMemory}
-use Rattle.wording.specs.Told.{RefusesBundle, TellsLine, TellsText}
+use Rattle.wording.specs.Told.{RefusesBundle, RefusesBy, TellsText}
+use Rattle.wording.specs.declared.told.End.TheVariants.{Done}
 use Rattle.wording.specs.declared.told.Told.{Told}
 use Rattle.call_words.specs.Wrong.{TellsWrong}
 use Rattle.explain.specs.Asked.{IsCall, IsAsked}
@@ -29,7 +30,7 @@ pub record ExplainsCall (native : Arch) (bundle : List ℕ) (given : List (Bor (
   pub call : Record
   pub is_call : IsCall native given call
   pub explains : Explains native bundle call told.bytes.items
-  pub done : told.done ≡ true
+  pub end : told.end ≡ Done
 
 abbrev pub IsExplained : Arch → List ℕ → List (Bor (List ℕ)) → Told → Type 0
 IsExplained native bundle given told =
@@ -42,7 +43,7 @@ pub record TellsRecord (native : Arch) (given : List (Bor (List ℕ))) (told : T
   pub is_asked : IsAsked native given call
   pub whole : length told.bytes.items ≡ 64
   pub same : words_of told.bytes.items ≡ words call
-  pub done : told.done ≡ true
+  pub end : told.end ≡ Done
 
 abbrev pub IsRecorded : Arch → List (Bor (List ℕ)) → Told → Type 0
 IsRecorded native given told = RefusesCall native (IsAsked native given) (TellsWrong native given) told ⊎ TellsRecord native given told
@@ -51,19 +52,19 @@ IsRecorded native given told = RefusesCall native (IsAsked native given) (TellsW
 pub record TellsProgram (text : List ℕ) (told : Told) : Type 0 where
   pub program : view_fault told.bytes.items ≡ None
   pub listed : listing (insns_of told.bytes.items) ≡ text
-  pub done : told.done ≡ true
+  pub end : told.end ≡ Done
 
 -- the text has a fault, and the line that names it is told
 pub record RefusesListing (text : List ℕ) (told : Told) : Type 0 where
   pub error : AsmError
   pub is_fault : error ≢ NoMemory
   pub stands : IsListingFault text error
-  pub tells : TellsLine (codes "refused listing " ++ asm_text error) told
+  pub tells : RefusesBy (codes "refused listing " ++ asm_text error) told
 
 -- the bytes are no text in UTF-8, and the line that says so is told
 pub record RefusesBytes (text : List ℕ) (told : Told) : Type 0 where
   pub no_text : IsUtf8 text → ⊥
-  pub tells : TellsLine (codes "refused listing, which is no UTF-8") told
+  pub tells : RefusesBy (codes "refused listing, which is no UTF-8") told
 
 abbrev pub IsAssembled : List ℕ → Told → Type 0
 IsAssembled text told = RefusesBytes text told ⊎ (RefusesListing text told ⊎ TellsProgram text told)

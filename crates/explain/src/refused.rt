@@ -2,23 +2,23 @@
 ghost use Rattle.std.specs.Prelude.{◌≡◌, ◌++◌, [], ℕ, List, IfOk, codes, string_bytes};
 ghost use Rattle.machines.specs.Arch.{family_of};
 ghost use Rattle.call_words.specs.Wrong as wrong;
-ghost use Rattle.wording.specs.Told.{TellsLine};
+ghost use Rattle.wording.specs.Told.{RefusesBy};
 ghost use Rattle.explain.specs.Refused as spec;
 
 use crate::asked::are_bytes;
 use call_words::{put_wrong, put_wrong_call};
 use machines::{Arch, Family};
 use std::alloc::{AllocError, Global};
-use wording::Told;
+use wording::{End, Told};
 
-// A text as a line of a command that did nothing.
+// A text as the line of a refusal.
 fn told_line(mut text: String) -> Result<Told, AllocError>
-    ensures { IfOk result (TellsLine (string_bytes text)) }
+    ensures { IfOk result (RefusesBy (string_bytes text)) }
 {
     text.push_str("\n")?;
     Ok(Told {
         bytes: text.into_bytes(),
-        done: false,
+        end: End::Refused,
     })
 }
 
@@ -69,7 +69,7 @@ fn put_no_record(text: &mut String) -> Result<(), AllocError>
     text.push_str("\na record is 128 hexadecimal digits")
 }
 
-// The same, but for the machines of the chosen lists.
+// Adds the line that says that digits are not those of a record. For the machines of the chosen lists there is none.
 fn put_why_no_record(text: &mut String, native: Arch) -> Result<(), AllocError>
     ensures { IfOk result (λ _. (line : List ℕ) × spec.is_reason (family_of native) (λ line. line ≡ spec.no_record) line
         × (string_bytes text.new ≡ string_bytes text.old ++ line)) }

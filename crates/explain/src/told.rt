@@ -1,11 +1,12 @@
 //! What commands answer.
-ghost use Rattle.std.specs.Prelude.{◌≡◌, ◌≢◌, ◌++◌, IfOk, codes, false, length, true};
+ghost use Rattle.std.specs.Prelude.{◌≡◌, ◌≢◌, ◌++◌, IfOk, codes, length};
 ghost use Rattle.bpf_asm.specs.Fault.{text_of as asm_text};
 ghost use Rattle.bpf_asm.specs.declared.fault.AsmError.TheVariants.{OutOfMemory as NoMemory};
 ghost use Rattle.call_record.specs.Record.{words as words_in};
 ghost use Rattle.call_record.specs.Words.{words_of};
 ghost use Rattle.explain.specs.Told as spec;
-ghost use Rattle.wording.specs.Told.{TellsLine};
+ghost use Rattle.wording.specs.Told.{RefusesBy};
+ghost use Rattle.wording.specs.declared.told.End.TheVariants.{Done};
 
 use crate::asked::{asked, call_in};
 use crate::refused::{refused_call, refused_words};
@@ -15,22 +16,22 @@ use call_record::Record;
 use machines::Arch;
 use profile_json::Document;
 use std::alloc::{AllocError, Global};
-use wording::{Told, refused_profile};
+use wording::{End, Told, refused_profile};
 
 // The line that tells why a command did not do what it was asked for.
 fn refused(alloc: Global, why: &str) -> Result<Told, AllocError>
-    ensures { IfOk result (TellsLine (codes "refused " ++ why.now)) }
+    ensures { IfOk result (RefusesBy (codes "refused " ++ why.now)) }
 {
     let line = format!(in alloc; "refused {why}\n")?;
     Ok(Told {
         bytes: line.into_bytes(),
-        done: false,
+        end: End::Refused,
     })
 }
 
 // The line that tells why a text is no listing.
 fn refused_listing(alloc: Global, error: AsmError) -> Result<Told, AllocError>
-    ensures told { IfOk result (TellsLine (codes "refused listing " ++ asm_text error)) }
+    ensures told { IfOk result (RefusesBy (codes "refused listing " ++ asm_text error)) }
     ensures fault { IfOk result (λ told. error ≢ NoMemory) }
 {
     if let AsmError::OutOfMemory = error {
@@ -39,7 +40,7 @@ fn refused_listing(alloc: Global, error: AsmError) -> Result<Told, AllocError>
     let line = format!(in alloc; "refused listing {error}\n")?;
     Ok(Told {
         bytes: line.into_bytes(),
-        done: false,
+        end: End::Refused,
     })
 }
 
@@ -54,7 +55,7 @@ pub fn explain(alloc: Global, document: &Document, arguments: &[&str]) -> Result
     match explanation(alloc, document, &call) {
         Ok(text) => Ok(Told {
             bytes: text.into_bytes(),
-            done: true,
+            end: End::Done,
         }),
         Err(error) => refused_profile(alloc, error),
     }
@@ -64,11 +65,14 @@ pub fn explain(alloc: Global, document: &Document, arguments: &[&str]) -> Result
 fn recorded(alloc: Global, call: &Record) -> Result<Told, AllocError>
     ensures same { IfOk result (λ told. words_of told.bytes.items ≡ words_in call.now) }
     ensures whole { IfOk result (λ told. length told.bytes.items ≡ 64) }
-    ensures done { IfOk result (λ told. told.done ≡ true) }
+    ensures end { IfOk result (λ told. told.end ≡ Done) }
 {
     let bytes = call.to_bytes();
     let bytes = Vec::from_slice(alloc, &bytes)?;
-    Ok(Told { bytes, done: true })
+    Ok(Told {
+        bytes,
+        end: End::Done,
+    })
 }
 
 /// The 64 bytes of the call record that command line arguments ask for.
@@ -90,7 +94,10 @@ pub fn assembled(alloc: Global, listing: &[u8]) -> Result<Told, AllocError>
         return refused(alloc, "listing, which is no UTF-8");
     };
     match assemble(alloc, text) {
-        Ok(bytes) => Ok(Told { bytes, done: true }),
+        Ok(bytes) => Ok(Told {
+            bytes,
+            end: End::Done,
+        }),
         Err(error) => refused_listing(alloc, error),
     }
 }
@@ -106,6 +113,6 @@ pub fn version(alloc: Global) -> Result<Told, AllocError>
 {
     Ok(Told {
         bytes: Vec::from_slice(alloc, VERSION.as_bytes())?,
-        done: true,
+        end: End::Done,
     })
 }

@@ -44,7 +44,7 @@ fn encoded(alloc: Global, program: &[Insn]) -> Result<Vec<u8>, AllocError>
     Ok(bytes)
 }
 
-// The same, if the kernel accepts them.
+// The bytes of a program, if the kernel accepts it.
 fn accepted(alloc: Global, program: &[Insn]) -> Result<Vec<u8>, Unflat>
     requires { length program.now ≤ 4096 }
     ensures same { IfOk result (λ bytes. insns_of bytes.items ≡ program.now) }

@@ -35,7 +35,7 @@ pub(crate) enum Limit {
 }
 
 impl Limit {
-    /// The same of a stack.
+    /// Why no filter is made of a stack: its program is not made.
     pub(crate) fn told(self) -> Unflat
         ensures place { place_of result ≡ None }
         ensures long { result ≡ TooLong → self ≡ LimitTooLong }

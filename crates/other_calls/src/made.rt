@@ -37,7 +37,7 @@ fn encoded(alloc: Global, program: &[Insn]) -> Result<Vec<u8>, AllocError>
     Ok(bytes)
 }
 
-// The same, unless it has too many instructions.
+// The bytes of a program, unless it has too many instructions.
 fn spelled(alloc: Global, program: &[Insn]) -> Result<Vec<u8>, Unguarded>
     ensures bytes { IfOk result (λ bytes. insns_of bytes.items ≡ program.now) }
     ensures limit { IfErr result (IsLimit (length program.now)) }

@@ -1,4 +1,4 @@
-//! A program that kills where another allows, and allows where that one does not.
+//! The filter with ALLOW and KILL exchanged: it kills what the filter allows, and allows all else.
 ghost use Rattle.std.specs.Prelude.{◌≡◌, ◌++◌, IfOk};
 ghost use Rattle.other_calls.specs.inner.Guard as spec;
 

@@ -190,7 +190,8 @@ pub(crate) fn by_high<K: Knowledge>(known: &Told<'_, K>, narrow: bool, cond: &Co
     }
 }
 
-/// The same by the low half, where the high one is the one that is asked for.
+/// By the low half of its argument, whether a condition without a mask holds. Its high half is known to be the one that
+/// is asked for.
 pub(crate) fn by_low<K: Knowledge>(known: &Told<'_, K>, cond: &Cond) -> Answer {
     let word = low_word(cond);
     let number = halves(least_of(cond).unwrap_or(cond.value)).1;
@@ -280,7 +281,8 @@ pub(crate) fn cut_of(known: &Words, narrow: bool, cond: &Cond, is_low: bool) -> 
     cut_of_half_bits(known, cond, false)
 }
 
-/// The same, where something is known of the half.
+/// Where the argument of a condition is cut that is not settled: at the half that decides, if something is known of
+/// that half.
 pub(crate) fn cut_where_known(
     known: &Words,
     narrow: bool,

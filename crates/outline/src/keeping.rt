@@ -28,7 +28,7 @@ impl Kept {
         told: None,
     };
 
-    // The same, where another way leads to the spot too.
+    // What is kept of the ways before and one way more to the same spot.
     fn with_way(before: Option<Kept>, chains: &Chains, way: Kept) -> Kept {
         match before {
             Some(kept) => Kept {

@@ -87,7 +87,7 @@ fn still_left<K: Knowledge>(
     Some(left)
 }
 
-/// The same, where all that is known was learned before.
+/// What is left of a rule, if it may still hold, by all that is known. Both halves of each argument are asked anew.
 pub(crate) fn left_by_all<K: Knowledge>(
     known: &Told<'_, K>,
     rule: &Rule,
@@ -153,7 +153,8 @@ impl<'a> Maker<'a> {
         self.rules_left_of_many(known, left, word)
     }
 
-    // The same of what is gathered. Room for it is made in a function of its own, so that few rules do without.
+    // For many rules: the ones that may still hold, or one that holds, by what is gathered. The room for that is made
+    // in a function of its own, so that few rules do without.
     #[inline(never)]
     fn rules_left_of_many(&self, known: &Words, left: &Left, word: u8) -> Result<Left, AllocError> {
         let whole = listed(&known.whole);

@@ -44,7 +44,7 @@ fn pass(ready: &mut Vec<u32>, counts: &mut [u32], place: u32) -> Result<(), Allo
     Ok(())
 }
 
-// The same of the two that follow.
+// Takes one from the counts of the two spots that follow. A spot whose count is then 0 is ready.
 fn pass_all(ready: &mut Vec<u32>, counts: &mut [u32], kind: Kind) -> Result<(), AllocError> {
     let (first, second) = followers(kind);
     pass(ready, counts, second)?;

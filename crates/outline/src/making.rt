@@ -103,9 +103,9 @@ pub fn are_too_many(calls: &[AskedCall]) -> bool {
     false
 }
 
-/// The certificate of the filter that the compiler made of a profile, with the calls of which its outline says that rules ask for
-/// arguments. Calls that are asked alike are told apart at the returns. If the certificate comes out large so, or too large, they are told
-/// apart also before their arguments are asked for. Then the shorter one is taken.
+/// The certificate of the filter that the compiler made of a profile. Its outline names the calls whose arguments rules
+/// ask for. First try: split calls with the same rules only at returns. If that is large or too large, also try
+/// splitting before their arguments, and keep the shorter.
 pub fn outlined(
     alloc: Global,
     profile: &Profile,

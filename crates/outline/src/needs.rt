@@ -1,5 +1,5 @@
-//! What is needed of rules behind a node: which must be out there already, and which are those that hold in the end. A rule must be out
-//! there if no way behind refutes it before a return that asks this.
+//! What is needed of rules behind a node: the rules that must already be refuted there, and the rules that hold in the
+//! end. A rule must be refuted there if no path below refutes it before a return that needs it.
 
 use crate::conditions::{Answer, by_all, low_word};
 use crate::fault::OutlineError;

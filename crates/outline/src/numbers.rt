@@ -62,7 +62,7 @@ fn cut_within(range: (u32, u32), number: u32) -> Option<Cut> {
     None
 }
 
-// The same in front of a number of the range, or else behind it.
+// The number is cut in front of this one or else behind it, if there are numbers of a range on both sides.
 fn cut_beside(range: (u32, u32), number: u32) -> Option<Cut> {
     match cut_within(range, number) {
         Some(cut) => Some(cut),
@@ -330,7 +330,8 @@ impl<'a> Maker<'a> {
         Ok(numbers)
     }
 
-    // The same in the order of the calls.
+    // The numbers of a machine's calls of which rules ask for arguments, in the order of the calls. Excluded ones are
+    // left out.
     fn numbers_open<K: Knowledge>(&self, known: &K, token: u32) -> Result<Vec<u32>, AllocError> {
         let mut numbers = Vec::new(self.alloc);
         for call in self.calls {

@@ -118,7 +118,8 @@ impl<'a> Maker<'a> {
         }))
     }
 
-    // The same, with the nearest beginning of a list that serves as the end.
+    // A beginning where a section begins. It ends at the nearest beginning of a list that serves, or at the section's
+    // end.
     fn nearest(
         &mut self,
         section: Section<'_>,

@@ -114,7 +114,7 @@ impl<'a> Maker<'a> {
         }
     }
 
-    // The same, where the call comes to the position.
+    // Where a call goes on from a position, if it comes to it.
     fn onward_from(&self, call: Call, held: &[Option<AVal>], pc: usize) -> [Onward; 2] {
         match value_at(held, pc) {
             Some(a) => self.onward(call, pc, a),

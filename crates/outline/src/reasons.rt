@@ -61,7 +61,8 @@ impl<'a> Maker<'a> {
         Left::holding(self.alloc, self.simplest_of_many(known, *own, later))
     }
 
-    // The same among many rules, by what is gathered. Room for it is made in a function of its own, so that few rules do without.
+    // For many rules: the rule with the fewest conditions that holds, by what is gathered. The room for that is made in
+    // a function of its own, so that few rules do without.
     #[inline(never)]
     fn simplest_of_many(&self, known: &Words, own: LeftRule, parts: &[Vec<u32>]) -> LeftRule {
         let whole = listed(&known.whole);
@@ -69,7 +70,7 @@ impl<'a> Maker<'a> {
         self.simplest_of(&known.told(&Facts::of(&whole, &mut room)), own, parts)
     }
 
-    // The same among the rules of some parts.
+    // The rule with the fewest conditions that holds, among this one and the rules of some parts.
     fn simplest_of<K: Knowledge>(
         &self,
         known: &Told<'_, K>,

@@ -86,7 +86,7 @@ impl Words {
         }
     }
 
-    /// The same, with what its whole words are asked of.
+    /// These words, and what answers for the whole ones.
     pub(crate) fn told<'a, K: Knowledge>(&'a self, whole: &'a K) -> Told<'a, K> {
         let is_of_all = false;
         Told {
@@ -169,7 +169,7 @@ impl Words {
         Ok(())
     }
 
-    /// The same, where of a literal's word this one alone is known.
+    /// What is known of all other words, and of this literal's word the literal alone.
     pub(crate) fn only(&self, alloc: Global, literal: Lit) -> Result<Words, AllocError> {
         let mut words = Words::none(alloc);
         for other in self.whole.iter().chain(self.masked.iter()) {
@@ -256,7 +256,7 @@ impl Words {
         Ok(is_dead_at(&listed(&own), word))
     }
 
-    // The same, with a literal of a whole word more.
+    // What is known, with one more literal of a whole word.
     fn longer(&self, alloc: Global, literal: Lit) -> Result<Words, AllocError> {
         let (whole, are_dead) = self.whole_with(alloc, literal)?;
         Ok(Words {
@@ -266,7 +266,7 @@ impl Words {
         })
     }
 
-    /// The same, with a literal more.
+    /// What is known, with one more literal.
     pub(crate) fn with(&self, alloc: Global, literal: Lit) -> Result<Words, AllocError> {
         let word = literal.word();
         let mut words = if is_whole(literal) {
@@ -284,7 +284,7 @@ impl Words {
         Ok(words)
     }
 
-    /// The same, where a literal of a whole word comes to the others as it is. It follows from what a comparison tells, but it is
+    /// What is known, with a literal of a whole word added as it is. It follows from what a comparison tells, but it is
     /// not told, so no end of a range is told by it.
     pub(crate) fn with_as_is(&self, alloc: Global, literal: Lit) -> Result<Words, AllocError> {
         let mut words = Words {

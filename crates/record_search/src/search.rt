@@ -210,7 +210,8 @@ pub fn find_beside_rules<'a>(
     Ok(trials.found.or(trials.other))
 }
 
-/// The same, if one is found there, or in a search that goes on with what the filter compares. That none is found says nothing.
+/// A record for which the filter gives another verdict than the profile says, if one is found. It is looked for beside
+/// the rules, and by what the filter compares. That none is found says nothing.
 pub fn find_record<'a>(
     alloc: Global,
     profile: &'a Profile,

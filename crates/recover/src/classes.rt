@@ -125,7 +125,8 @@ pub(crate) enum Grain {
     Ways,
     /// So that each way has all numbers of a cell or none.
     Cells,
-    /// The same, and conditions are chosen for parts. The numbers of each have the same bits under some mask, and are all that have.
+    /// As `Cells`, and conditions are chosen for parts. The numbers of each have the same bits under some mask, and are
+    /// all that have.
     Blocks,
 }
 

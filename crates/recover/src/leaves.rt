@@ -38,7 +38,7 @@ impl Leaf {
         self.cell(low).contains(below) && self.cell(high).contains(above)
     }
 
-    /// The same records, but with these numbers of a word.
+    /// The leaf's records, with these numbers of a word in place of its own.
     pub(crate) fn with(&self, word: u8, cell: Cell) -> Leaf {
         let mut leaf = *self;
         if let Some(own) = leaf.cells.get_mut(word as usize) {

@@ -27,7 +27,7 @@ impl Piece {
         }
     }
 
-    /// The same numbers, of another class.
+    /// This piece, in another class.
     pub(crate) fn in_class(self, class: usize) -> Piece {
         Piece { class, ..self }
     }

@@ -104,7 +104,7 @@ fn push_found(
     Ok(())
 }
 
-// The same under one more condition.
+// What is said, under one more condition.
 fn under(alloc: Global, cond: Cond, said: &Said) -> Result<Said, AllocError> {
     let mut conds = Vec::new(alloc);
     conds.push(cond)?;

@@ -88,8 +88,8 @@ pub(crate) struct Side<'a> {
     pub(crate) leaves: &'a [Leaf],
 }
 
-/// The same arguments for two calls, none above the greatest, with unlike verdicts, if such are found by the numbers that the filter tells
-/// apart.
+/// Two calls with one list of arguments, none above the greatest, and unlike verdicts. The arguments are numbers that
+/// the filter tells apart.
 pub(crate) fn unlike(
     alloc: Global,
     work: &mut Work,

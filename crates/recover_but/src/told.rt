@@ -60,7 +60,7 @@ fn but_text(alloc: Global, family: Family, aside: &[Calls]) -> Result<String, Al
     Ok(text)
 }
 
-// The same, if there are any.
+// A line and the lines of the calls that are left aside; nothing if there are none.
 fn aside_text(alloc: Global, family: Family, aside: &[Calls]) -> Result<String, AllocError>
     ensures { IfOk result (λ text. string_bytes text ≡ spec.aside_text family aside.now) }
 {

@@ -39,7 +39,7 @@ fn judge_beside(alloc: Global, profile: &Profile, filter: &[u8]) -> Result<(), U
     be_right(&judged)
 }
 
-// The same of a bundle's profile.
+// Refuses a filter unless it allows other calls, and is right for a bundle's profile on the rest.
 fn judge_filter_beside(
     alloc: Global,
     native: Arch,

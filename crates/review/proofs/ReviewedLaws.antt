@@ -13,7 +13,7 @@ use Rattle.profile_json.specs.Breaks.{Breaks}
 use Rattle.profile_json.specs.Fault.{fault_of, text_of}
 use Rattle.profile_json.specs.declared.fault.ProfileError.{ProfileError}
 use Rattle.profile_json.specs.declared.fault.ProfileError.TheVariants.{OutOfMemory}
-use Rattle.wording.specs.Told.{TellsLine}
+use Rattle.wording.specs.Told.{RefusesBy}
 use Rattle.wording.specs.declared.told.Told.{Told}
 use Rattle.review.specs.Reviewed.{IsReviewed}
 use Rattle.review.specs.Told as told
@@ -27,7 +27,7 @@ use Rattle.review.specs.declared.member.Member.{Member}
 -- the bundle is refused
 pub is_refused : {E : Type 0} (native : Arch) (bundle : List ℕ) (e : ProfileError) (r : Result Told E)
     → IfSome (fault_of e) (Breaks bundle native) → IfOk r (λ told. e ≢ OutOfMemory)
-    → IfOk r (TellsLine (codes "refused profile " ++ text_of e)) → IfOk r (IsReviewed native bundle)
+    → IfOk r (RefusesBy (codes "refused profile " ++ text_of e)) → IfOk r (IsReviewed native bundle)
 is_refused native bundle e (Ok told) stands fault line = inl (record { error = e; is_fault = fault; stands = stands; tells = line })
 is_refused native bundle e (Err x) stands fault line = line
 

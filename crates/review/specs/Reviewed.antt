@@ -1,10 +1,11 @@
 -- What `ccell review` tells of a bundle.
-use Rattle.std.specs.Prelude.{◌≡◌, ◌⊎◌, ◌++◌, ℕ, true, List}
+use Rattle.std.specs.Prelude.{◌≡◌, ◌⊎◌, ◌++◌, ℕ, List}
 use Rattle.machines.specs.declared.arch.Arch.{Arch}
 use Rattle.profile.specs.declared.rules.Rule.{Rule}
 use Rattle.profile.specs.Policy.{Policy}
 use Rattle.wording.specs.Told.{RefusesBundle}
 use Rattle.wording.specs.Understood.{IsReadAs}
+use Rattle.wording.specs.declared.told.End.TheVariants.{Done}
 use Rattle.wording.specs.declared.told.Told.{Told}
 use Rattle.review.specs.Groups.{AreAllGroups, GroupEntry}
 use Rattle.review.specs.Systemd.{group_names}
@@ -31,7 +32,7 @@ pub record TellsReview (native : Arch) (bundle text : List ℕ) : Type 0 where
 
 pub record ReviewsBundle (native : Arch) (bundle : List ℕ) (told : Told) : Type 0 where
   pub review : TellsReview native bundle told.bytes.items
-  pub done : told.done ≡ true
+  pub end : told.end ≡ Done
 
 abbrev pub IsReviewed : Arch → List ℕ → Told → Type 0
 IsReviewed native bundle told = RefusesBundle native bundle told ⊎ ReviewsBundle native bundle told

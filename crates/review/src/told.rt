@@ -20,7 +20,7 @@ use crate::text::put_group;
 use profile::Profile;
 use profile_json::{Document, EntryRules, ProfileError};
 use std::alloc::{AllocError, Global};
-use wording::{Told, refused_profile};
+use wording::{End, Told, refused_profile};
 
 // Adds what is told of a group.
 fn add_group(
@@ -107,7 +107,7 @@ pub fn review(alloc: Global, document: &Document) -> Result<Told, AllocError>
     match text_for(alloc, document) {
         Ok(text) => Ok(Told {
             bytes: text.into_bytes(),
-            done: true,
+            end: End::Done,
         }),
         Err(error) => refused_profile(alloc, error),
     }

@@ -67,7 +67,7 @@ impl Step {
         Some(Step::of(subject, number, &next.on, &self.off))
     }
 
-    // The same with the first step that it can be put together with, of those of the block that it goes on at.
+    // Both this step and a step of the block that it goes on at, the first that can be put together with it.
     fn joined(&self, all: &[Steps]) -> Option<Step> {
         let Leaf::Block(block) = self.on else {
             return None;

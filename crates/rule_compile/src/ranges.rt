@@ -368,7 +368,8 @@ fn next_of(profile: &Profile, token: u32, from: u64, end: u64) -> u64
     next_number(profile.rules(), token, from, end)
 }
 
-// The same, by all rules.
+// The least number, from one on, that has a rule of the machine with the token, or else the end. All rules are looked
+// at.
 fn next_number(rules: &[Rule], token: u32, from: u64, end: u64) -> u64
     requires { from ≤ end }
     ensures { IsNext rules.now token from end result }

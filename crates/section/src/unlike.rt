@@ -72,7 +72,7 @@ fn count_of(members: &[(&str, Value<'_>)], key: &str) -> usize
     members.iter().filter(|member| member.0 == key).count()
 }
 
-// The same in upper or lower case.
+// How often a key stands in an object, in upper or lower case.
 fn count_alike(members: &[(&str, Value<'_>)], key: &str) -> usize
     ensures { result ≡ count_by (λ member. str_eq_ignore_ascii_case member.0.now key.now) members.now }
 {
@@ -127,7 +127,7 @@ fn put_if_taken(
     put_line(lines, place, key, OTHER_CASE)
 }
 
-// The same of each of these keys.
+// Adds a line for each of these keys, known to some reader, that stands twice or otherwise.
 fn put_taken(
     lines: &mut Vec<u8>,
     place: &str,
@@ -175,7 +175,7 @@ fn put_if_present(
     Ok(())
 }
 
-// The same of each of these keys, in an object.
+// Adds a line for each of these keys that stands in an object.
 fn put_present(
     lines: &mut Vec<u8>,
     place: &str,

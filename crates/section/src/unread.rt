@@ -21,7 +21,7 @@ pub const SECTION_KEYS: &[&str] = &[
     "syscalls",
 ];
 
-// The same, and that of what is told of other machines.
+// The keys of a section that are read, and the key that tells of other machines.
 const TOLD_KEYS: &[&str] = &[
     "defaultAction",
     "defaultErrnoRet",
@@ -252,7 +252,7 @@ fn put_other(lines: &mut Vec<u8>, value: &Value<'_>) -> Result<(), AllocError>
     lines.extend_from_slice(NO_OTHERS.as_bytes())
 }
 
-// The same of a section, if it tells something.
+// Adds the line of what a section tells of other machines, if it tells something.
 fn put_others(lines: &mut Vec<u8>, value: &Value<'_>) -> Result<(), AllocError>
     ensures { IfOk result (λ _. lines.new.items ≡ lines.old.items ++ spec.others_lines (value_view value.now)) }
 {

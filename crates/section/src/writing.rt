@@ -27,7 +27,7 @@ fn lines_of(bundle: &[u8]) -> Option<&str> {
     behind.strip_suffix(BEHIND)
 }
 
-// The same lines, as they stand where nothing is above them.
+// The lines of a section as they stand where nothing is above them.
 fn moved(alloc: Global, lines: &str) -> Result<String, AllocError> {
     let mut text = String::new(alloc);
     for line in lines.lines() {
@@ -49,7 +49,7 @@ fn means(alloc: Global, native: Arch, bundle: &[u8], profile: &Profile) -> Resul
     }
 }
 
-// Want of memory, or that the fault of a text was found.
+// Ok(true) unless memory ran out.
 fn unless_memory(error: ProfileError) -> Result<bool, AllocError>
     ensures { IfOk result (λ _. fault_of error ≢ None) }
 {

@@ -80,7 +80,7 @@ abbrev pub TellsFailedRead : {T : Type 0} → Failures → Failures → Result T
 TellsFailedRead old new (Err (Read line)) = HasFailed old new
 TellsFailedRead old new other = NoneFailed old new
 
--- The same of the sink, and of a failed write.
+-- By which calls of the sink failed before and after: where a failed write is told just one did, the last; and else none.
 abbrev pub TellsFailedWrite : {T : Type 0} → Failures → Failures → Result T ScriptFault → Type 0
 TellsFailedWrite old new (Err (Write out)) = HasFailed old new
 TellsFailedWrite old new other = NoneFailed old new

@@ -1,5 +1,5 @@
 -- What is told of a bundle that is read: what it means, or why it is refused.
-use Rattle.std.specs.Prelude.{ℕ, ◌≡◌, ◌≢◌, ◌⊎◌, ◌+◌, ◌-◌, false, if◌then◌else◌, List, [], ◌∷◌, ◌++◌}
+use Rattle.std.specs.Prelude.{ℕ, ◌≡◌, ◌≢◌, ◌⊎◌, ◌+◌, ◌-◌, if◌then◌else◌, List, [], ◌∷◌, ◌++◌}
 use Rattle.std.specs.Prelude.{codes, drop, take, unwrap_or, IfSome}
 use Rattle.std.specs.Fmt.{decimal}
 use Rattle.std.specs.List.{flat_map}
@@ -17,6 +17,7 @@ use Rattle.profile_json.specs.declared.refusal.Place.{Place}
 use Rattle.profile_json.specs.Fault.{fault_of, text_of}
 use Rattle.profile_json.specs.declared.fault.ProfileError.{ProfileError}
 use Rattle.profile_json.specs.declared.fault.ProfileError.TheVariants.{OutOfMemory, Version}
+use Rattle.wording.specs.declared.told.End.TheVariants.{Refused}
 use Rattle.wording.specs.declared.told.Told.{Told}
 use Rattle.wording.specs.Phrases.{action_text, condition_text}
 use Rattle.wording.specs.Told.{TellsText}
@@ -90,13 +91,13 @@ pub record TellsFault (native : Arch) (bundle : List ℕ) (told : Told) : Type 0
   pub line : List ℕ
   pub is_line : IsPlaceLine place line
   pub tells : told.bytes.items ≡ codes "refused profile " ++ text_of error ++ line_feed ∷ line
-  pub done : told.done ≡ false
+  pub end : told.end ≡ Refused
 
--- the bundle's edition is refused, and it was not done; nothing is said of the text
+-- the bundle's edition is refused; nothing is said of the text
 pub record TellsEdition (native : Arch) (bundle : List ℕ) (told : Told) : Type 0 where
   pub place : Place
   pub stands : IfSome (fault_of Version) (BreaksAt bundle native place)
-  pub done : told.done ≡ false
+  pub end : told.end ≡ Refused
 
 abbrev pub IsRead : Arch → List ℕ → Told → Type 0
 IsRead native bundle told = TellsMeaning native bundle told ⊎ (TellsFault native bundle told ⊎ TellsEdition native bundle told)

@@ -16,7 +16,7 @@ use kernel_check::{Refused, accept};
 use machines::{Arch, LEAST_X32_NUMBER};
 use std::alloc::{AllocError, Global};
 use std::fmt::Write;
-use wording::{ActionText, Told, machine_of, machine_with};
+use wording::{ActionText, End, Told, machine_of, machine_with};
 
 // Adds the name of a word of the record, by its offset (seccomp(2), `struct seccomp_data`).
 fn put_word_name(text: &mut String, offset: u32) -> Result<(), AllocError> {
@@ -157,7 +157,7 @@ pub(crate) fn no_program(alloc: Global, fault: ViewError) -> Result<Told, AllocE
     let line = view_line(alloc, fault)?;
     Ok(Told {
         bytes: line.into_bytes(),
-        done: false,
+        end: End::Refused,
     })
 }
 
@@ -174,34 +174,36 @@ fn with_line(
     mut text: String,
     mark: &str,
     cause: Refused,
+    end: End,
 ) -> Result<Told, AllocError>
     ensures { IfOk result (λ told. (filter : List ℕ) → view_fault filter ≡ None → IsRefusal (insns_of filter) cause
-        → spec.IsRefused mark.now filter told) }
+        → spec.IsRefused mark.now end filter told) }
 {
     let line = kernel_line(alloc, mark, cause)?;
     text.push_str(&line)?;
     Ok(Told {
         bytes: text.into_bytes(),
-        done: false,
+        end,
     })
 }
 
-/// A text about a program. Where the kernel refuses the program, the cause is its last line, behind a mark.
+/// A text about a program. If the kernel refuses the program, the cause is its last line, behind a mark, and the command ends as told.
 pub(crate) fn with_cause(
     alloc: Global,
     text: String,
     program: &Program<'_>,
     mark: &str,
+    end: End,
 ) -> Result<Told, AllocError>
     ensures { IfOk result (λ told. (filter : List ℕ) → view_fault filter ≡ None → insns program.now ≡ insns_of filter
-        → spec.IsShown mark.now filter told) }
+        → spec.IsShown mark.now end filter told) }
 {
     match accept(program) {
         Ok(_accepted) => Ok(Told {
             bytes: text.into_bytes(),
-            done: true,
+            end: End::Done,
         }),
-        Err(cause) => with_line(alloc, text, mark, cause),
+        Err(cause) => with_line(alloc, text, mark, cause, end),
     }
 }
 
@@ -221,7 +223,7 @@ pub fn annotated(alloc: Global, native: Arch, filter: &[u8]) -> Result<Told, All
     match Program::view(filter) {
         Ok(program) => {
             let text = listing(alloc, native, &program)?;
-            with_cause(alloc, text, &program, "")
+            with_cause(alloc, text, &program, "", End::No)
         }
         Err(fault) => no_program(alloc, fault),
     }

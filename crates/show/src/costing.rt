@@ -14,7 +14,7 @@ use kernel_check::{Accepted, accept};
 use machines::{Arch, Numbers};
 use std::alloc::{AllocError, Global};
 use std::fmt::Write;
-use wording::Told;
+use wording::{End, Told};
 
 /// What a call costs: its number, whether the kernel answers it by itself, and how many instructions run where it does not.
 #[derive(Clone, Copy)]
@@ -300,7 +300,7 @@ pub fn costs(alloc: Global, native: Arch, filter: &[u8]) -> Result<Told, AllocEr
     match Program::view(filter) {
         Ok(program) => {
             let text = costs_text(alloc, native, &program)?;
-            with_cause(alloc, text, &program, "")
+            with_cause(alloc, text, &program, "", End::Refused)
         }
         Err(fault) => no_program(alloc, fault),
     }

@@ -10,7 +10,7 @@ use call_record::Word;
 use machines::Arch;
 use std::alloc::{AllocError, Global};
 use std::fmt::Write;
-use wording::Told;
+use wording::{End, Told};
 
 const HEAD: &str = "digraph filter {\n  node [shape=box, style=filled, fontname=monospace];\n";
 
@@ -119,7 +119,7 @@ pub fn drawn(alloc: Global, native: Arch, filter: &[u8]) -> Result<Told, AllocEr
     match Program::view(filter) {
         Ok(program) => {
             let text = graph(alloc, native, &program)?;
-            with_cause(alloc, text, &program, "// ")
+            with_cause(alloc, text, &program, "// ", End::No)
         }
         Err(fault) => no_program(alloc, fault),
     }

@@ -1,9 +1,10 @@
 //! What a bundle means, or where it is wrong.
-ghost use Rattle.std.specs.Prelude.{◌≡◌, ◌≢◌, ◌≤◌, ◌⊎◌, ◌++◌, ◌∷◌, [], ℕ, List, IfOk, IfSome, codes, false, length, string_bytes};
+ghost use Rattle.std.specs.Prelude.{◌≡◌, ◌≢◌, ◌≤◌, ◌⊎◌, ◌++◌, ◌∷◌, [], ℕ, List, IfOk, IfSome, codes, length, string_bytes};
 ghost use Rattle.texts.specs.Lines.{line_feed};
 ghost use Rattle.profile_json.specs.Place.{BreaksAt};
 ghost use Rattle.profile_json.specs.Fault.{fault_of, text_of};
 ghost use Rattle.wording.specs.Told.{TellsText};
+ghost use Rattle.wording.specs.declared.told.End.TheVariants.{Refused};
 ghost use Rattle.show.specs.Read as spec;
 
 use crate::edition::{READ, of_first_edition};
@@ -19,7 +20,7 @@ use profile_json::{Bundle, Document, ProfileError, Refusal};
 use serde_json::Value;
 use std::alloc::{AllocError, Global};
 use std::fmt::Write;
-use wording::Told;
+use wording::{End, Told};
 
 // Adds why a text is no name that is known.
 fn put_unknown(text: &mut String, found: &Found<'_>, what: &str) -> Result<(), AllocError> {
@@ -233,12 +234,12 @@ pub(crate) fn place_line(
 fn refused_at(mut text: String, place: &str, error: ProfileError) -> Result<Told, AllocError>
     ensures text { IfOk result (λ told. told.bytes.items
         ≡ string_bytes text ++ (codes "refused profile " ++ (text_of error ++ line_feed ∷ place.now))) }
-    ensures done { IfOk result (λ told. told.done ≡ false) }
+    ensures end { IfOk result (λ told. told.end ≡ Refused) }
 {
     write!(text, "refused profile {error}\n{place}")?;
     Ok(Told {
         bytes: text.into_bytes(),
-        done: false,
+        end: End::Refused,
     })
 }
 
@@ -249,7 +250,7 @@ fn refused(
     document: &Document,
     refusal: &Refusal,
 ) -> Result<Told, AllocError>
-    ensures { IfOk result (λ told. (told.done ≡ false) × ((line : List ℕ) × spec.IsPlaceLine refusal.now.place line × (told.bytes.items
+    ensures { IfOk result (λ told. (told.end ≡ Refused) × ((line : List ℕ) × spec.IsPlaceLine refusal.now.place line × (told.bytes.items
         ≡ string_bytes text ++ (codes "refused profile " ++ (text_of refusal.now.error ++ line_feed ∷ line))))) }
 {
     let line = place_line(alloc, document, refusal)?;
@@ -264,7 +265,7 @@ fn meaning_of(mut text: String, bundle: &Bundle) -> Result<Told, AllocError>
     put_bundle(&mut text, &bundle.profile, &bundle.by_entry)?;
     Ok(Told {
         bytes: text.into_bytes(),
-        done: true,
+        end: End::Done,
     })
 }
 
@@ -279,13 +280,13 @@ fn read_behind(text: String, alloc: Global, document: &Document) -> Result<Told,
     }
 }
 
-// What was told, and that it was not done.
-fn not_done(told: Told) -> Told
-    ensures { result.done ≡ false }
+// What was told, as a refusal.
+fn as_refusal(told: Told) -> Told
+    ensures { result.end ≡ Refused }
 {
     Told {
         bytes: told.bytes,
-        done: false,
+        end: End::Refused,
     }
 }
 
@@ -297,18 +298,18 @@ fn read_trimmed(alloc: Global, document: &Document) -> Result<Told, AllocError> 
     match of_first_edition(alloc, &mut text, native.family(), document.bytes())? {
         Some(other) => {
             let told = read_behind(text, alloc, &Document::new(alloc, other, native))?;
-            Ok(not_done(told))
+            Ok(as_refusal(told))
         }
         None => read_behind(text, alloc, document),
     }
 }
 
-// The same of a bundle whose edition is refused: it was not done, whatever is told.
+// What a bundle whose edition is refused would mean, as a refusal.
 fn read_as_first(alloc: Global, document: &Document) -> Result<Told, AllocError>
-    ensures { IfOk result (λ told. told.done ≡ false) }
+    ensures { IfOk result (λ told. told.end ≡ Refused) }
 {
     let told = read_trimmed(alloc, document)?;
-    Ok(not_done(told))
+    Ok(as_refusal(told))
 }
 
 // Tells why and where a bundle is refused. One with another edition may be read as the first.

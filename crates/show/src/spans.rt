@@ -74,7 +74,7 @@ fn span_at(insn: &Insn, arch: u32, nr: u32, holds: Holds, later: &[Spans]) -> Sp
     }
 }
 
-// The same, whatever is known of A.
+// How many run from an instruction on, for each that may be known of A.
 fn spans_at(insn: &Insn, arch: u32, nr: u32, later: &[Spans]) -> Spans
     ensures { (p : List Instruction) (pc : ℕ) → Covers p arch nr later.now → length later.now + pc + 1 ≡ length p
         → slice_get p pc ≡ Some insn.now → AreSpans p arch nr pc result }

@@ -1,5 +1,6 @@
 //! What is told of a bundle, with what stands in it beside its profile, or is not read.
-ghost use Rattle.std.specs.Prelude.{◌≡◌, ◌&&◌, ◌++◌, ◌==◌, IfOk, length};
+ghost use Rattle.std.specs.Prelude.{◌≡◌, ◌++◌, ◌==◌, IfOk, length};
+ghost use Rattle.wording.specs.Told.{end_if};
 ghost use Rattle.show.specs.Unread.{RefusesUnread, TellsBeside, TellsUnread};
 
 use machines::Arch;
@@ -10,23 +11,23 @@ use wording::Told;
 // What was told, with lines behind it.
 fn with_lines(told: Told, lines: &[u8]) -> Result<Told, AllocError>
     ensures bytes { IfOk result (λ new. new.bytes.items ≡ told.bytes.items ++ lines.now) }
-    ensures done { IfOk result (λ new. new.done ≡ told.done) }
+    ensures end { IfOk result (λ new. new.end ≡ told.end) }
 {
-    let Told { mut bytes, done } = told;
+    let Told { mut bytes, end } = told;
     bytes.extend_from_slice(lines)?;
-    Ok(Told { bytes, done })
+    Ok(Told { bytes, end })
 }
 
-// The same, which is done only if there are no lines.
+// What was told, with lines behind it. It is done only if there are no lines.
 fn done_without_lines(told: Told, lines: &[u8]) -> Result<Told, AllocError>
     ensures bytes { IfOk result (λ new. new.bytes.items ≡ told.bytes.items ++ lines.now) }
-    ensures done { IfOk result (λ new. new.done ≡ (told.done && (length lines.now == 0))) }
+    ensures end { IfOk result (λ new. new.end ≡ end_if (length lines.now == 0) told.end) }
 {
-    let Told { mut bytes, done } = told;
+    let Told { mut bytes, end } = told;
     bytes.extend_from_slice(lines)?;
     Ok(Told {
         bytes,
-        done: done && lines.is_empty(),
+        end: end.only_if(lines.is_empty()),
     })
 }
 
@@ -39,7 +40,7 @@ pub(crate) fn with_beside(
 ) -> Result<Told, AllocError>
     ensures { IfOk result (TellsBeside native bundle.now told) }
 {
-    if !told.done {
+    if !told.end.is_done() {
         return Ok(told);
     }
     let lines = beside_of(alloc, native, bundle)?;
@@ -60,7 +61,8 @@ pub fn with_unread(
     with_lines(told, &lines)
 }
 
-/// The same, which is done only if all is read.
+/// What was told of a bundle, with a line for each part of its section that is not read. It is done only if there are
+/// no lines.
 pub fn refusing_unread(
     alloc: Global,
     native: Arch,

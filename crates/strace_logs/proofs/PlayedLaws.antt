@@ -22,6 +22,7 @@ use Rattle.strace_logs.specs.declared.logged.LogCall.{LogCall}
 use Rattle.strace_logs.specs.declared.refusals.RefusedCall.{RefusedCall}
 use Rattle.strace_logs.specs.Logged.{Logged, calls_from, calls_in, calls_of, first_none, told_on}
 use Rattle.wording.specs.Reason.{reason_of}
+use Rattle.wording.proofs.Ends.{ends_alike}
 use Rattle.strace_logs.specs.Replayed.{LetsThrough, LineIsThrough, Refused, TextIsThrough, counts_text, firsts_behind, refusal_text, refused_in, replay_text, with_verdict}
 use Rattle.strace_logs.specs.inner.Played.{ArePlayed, IsPlayed}
 use Rattle.strace_logs.specs.inner.Views.{all_logged, all_refused, logged, refused}
@@ -145,8 +146,9 @@ logs_played native p rules ends logs unused calls told none are played =
     record {
       are_logs = none;
       tells = played.tells ∙ ap (replay_text p rules ends unused) are;
-      done = (
-        λ e. through.0 (subst (All (Lets p)) are (played.done.0 e)),
-        λ all. played.done.1 (subst (All (Lets p)) (sym are) (through.1 all)),
-      );
+      ends =
+          ends_alike (All (Lets p) calls) (All (TextIsThrough native p) (map (λ (log : List ℕ × List ℕ). log.1) logs)) told.end (
+            λ all. through.0 (subst (All (Lets p)) are all),
+            λ all. subst (All (Lets p)) (sym are) (through.1 all),
+          ) played.ends;
     }

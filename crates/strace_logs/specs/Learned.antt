@@ -11,6 +11,7 @@ use Rattle.call_tables.specs.Table.{name_in, number_in}
 use Rattle.profile.specs.declared.rules.Rule.{Rule}
 use Rattle.profile.specs.Policy.{Policy, Says}
 use Rattle.profile_json.specs.Meaning.{IsText, Means}
+use Rattle.wording.specs.Told.{was_done}
 use Rattle.wording.specs.declared.told.Told.{Told}
 use Rattle.strace_logs.specs.Line.{call_in, words_of_call}
 use Rattle.wording.specs.Lines.{lines_of}
@@ -76,4 +77,4 @@ pub record IsLearned (native : Arch) (texts : List (List ℕ)) (runtime : Option
   pub no_more : NoMore native texts runtime policy
 
 abbrev pub TellsLearned : Arch → List (List ℕ) → Option Runtime → Otherwise → Told → Type 0
-TellsLearned native texts runtime otherwise told = told.done ≡ true → IsLearned native texts runtime otherwise told.bytes.items
+TellsLearned native texts runtime otherwise told = was_done told.end ≡ true → IsLearned native texts runtime otherwise told.bytes.items

@@ -1,5 +1,5 @@
 -- What is told of logs that are played through a bundle.
-use Rattle.std.specs.Prelude.{ℕ, ◌≡◌, ◌↔◌, ◌⊎◌, ◌==◌, ◌&&◌, Bool, true, false, if◌then◌else◌, List, [], ◌∷◌, ◌++◌, Some, None, IfSome}
+use Rattle.std.specs.Prelude.{ℕ, ◌≡◌, ◌⊎◌, ◌==◌, ◌&&◌, Bool, true, false, if◌then◌else◌, List, [], ◌∷◌, ◌++◌, Some, None, IfSome}
 use Rattle.std.specs.Prelude.{◌-◌, codes, count_by, length, map, unwrap_or}
 use Rattle.std.specs.Fmt.{decimal}
 use Rattle.std.specs.List.{All, flat_map, list_any}
@@ -19,7 +19,7 @@ use Rattle.wording.specs.declared.reason.Reason.TheVariants.{Foreign, Entry, Def
 use Rattle.wording.specs.declared.told.Told.{Told}
 use Rattle.wording.specs.Phrases.{action_text}
 use Rattle.wording.specs.Reason.{reason_of}
-use Rattle.wording.specs.Told.{RefusesBundle, TellsLine}
+use Rattle.wording.specs.Told.{EndsBy, RefusesBundle, RefusesBy}
 use Rattle.strace_logs.specs.Line.{shown_in, words_of_call}
 use Rattle.wording.specs.Lines.{lines_of}
 use Rattle.strace_logs.specs.Logged.{Logged, calls_in, first_none}
@@ -139,9 +139,9 @@ TextIsThrough native p text = All (LineIsThrough native p) (lines_of text)
 pub record RefusesLog (native : Arch) (logs : List (List ℕ × List ℕ)) (told : Told) : Type 0 where
   pub name : List ℕ
   pub first : first_none native logs ≡ Some name
-  pub tells : TellsLine (codes "refused log " ++ name ++ codes ": it is no log of strace -f -n -e raw=all: no line tells a call, or one has an argument that is no number") told
+  pub tells : RefusesBy (codes "refused log " ++ name ++ codes ": it is no log of strace -f -n -e raw=all: no line tells a call, or one has an argument that is no number") told
 
--- The logs were played through the profile that the bundle means. It is done just where each record is carried out.
+-- The logs were played through the profile that the bundle means. It is done if each record is carried out, and no if one is not.
 pub record Replays (native : Arch) (bundle : List ℕ) (logs : List (List ℕ × List ℕ)) (unused : Bool) (told : Told) : Type 0 where
   pub policy : Policy
   pub rules : List Rule
@@ -149,7 +149,7 @@ pub record Replays (native : Arch) (bundle : List ℕ) (logs : List (List ℕ ×
   pub read : IsReadAs native bundle policy rules ends
   pub are_logs : first_none native logs ≡ None
   pub tells : told.bytes.items ≡ replay_text policy rules ends unused (calls_in native logs)
-  pub done : (told.done ≡ true) ↔ All (TextIsThrough native policy) (map (λ log. log.1) logs)
+  pub ends : EndsBy (All (TextIsThrough native policy) (map (λ log. log.1) logs)) told.end
 
 -- The bundle is refused, or a file that is no log. Or the logs, each by its name and its text, were played through the bundle.
 abbrev pub TellsReplayed : Arch → Bool → List ℕ → List (List ℕ × List ℕ) → Told → Type 0

@@ -4,6 +4,7 @@ ghost use Rattle.machines.specs.declared.arch.Arch.{Arch};
 ghost use Rattle.strace_logs.specs.inner.Seen.{IsWeighed};
 ghost use Rattle.strace_logs.specs.Taken.{AreTaken, HaveShown, lines_in};
 ghost use Rattle.strace_logs.specs.Learned.{TellsLearned};
+ghost use Rattle.wording.specs.Told.{was_done};
 
 use crate::bundle::{bundle_of, machines_of};
 use crate::calls::{Calls, MOST_KEPT, Seen};
@@ -17,7 +18,7 @@ use machines::Arch;
 use profile::Profile;
 use profile_json::{ProfileError, read_bundle};
 use std::alloc::{AllocError, Global};
-use wording::{Told, refused_profile};
+use wording::{End, Told, refused_profile};
 
 /// What logs give: the bundle, or why there is none, and what is told of it, a line each.
 #[derive(Drop)]
@@ -27,13 +28,14 @@ pub struct Learned {
 }
 
 // The line that tells why there is no bundle.
-fn refused(alloc: Global, what: &str, name: &str, why: &str) -> Result<Told, AllocError>
-    ensures { IfOk result (λ told. told.done ≡ false) }
+fn refused(alloc: Global, what: &str, name: &str, why: &str, end: End) -> Result<Told, AllocError>
+    requires { was_done end ≡ false }
+    ensures { IfOk result (λ told. was_done told.end ≡ false) }
 {
     let line = format!(in alloc; "refused {what} {name}: {why}\n")?;
     Ok(Told {
         bytes: line.into_bytes(),
-        done: false,
+        end,
     })
 }
 
@@ -48,21 +50,33 @@ fn weighed(
     text: String,
 ) -> Result<Told, AllocError>
     ensures { (native : Arch) (texts : List (List ℕ)) → AreTaken native (lines_in texts) seen.now
-        → IfOk result (λ told. told.done ≡ true
+        → IfOk result (λ told. was_done told.end ≡ true
         → IsWeighed native profile.now texts runtime otherwise (string_bytes text) told.bytes.items) }
 {
     if !allows_seen(profile, seen) {
-        return refused(alloc, "bundle", "", "it does not allow each record");
+        return refused(
+            alloc,
+            "bundle",
+            "",
+            "it does not allow each record",
+            End::No,
+        );
     }
     if !are_named(seen, runtime, profile.rules()) {
-        return refused(alloc, "bundle", "", "it names a call that no log shows");
+        return refused(
+            alloc,
+            "bundle",
+            "",
+            "it names a call that no log shows",
+            End::No,
+        );
     }
     if !is_rest(profile, otherwise) {
-        return refused(alloc, "bundle", "", "it has another default");
+        return refused(alloc, "bundle", "", "it has another default", End::No);
     }
     Ok(Told {
         bytes: text.into_bytes(),
-        done: true,
+        end: End::Done,
     })
 }
 
@@ -89,10 +103,10 @@ fn judged(
 
 // What tells that a log has no record.
 fn no_record(alloc: Global, name: &str) -> Result<Told, AllocError>
-    ensures { IfOk result (λ told. told.done ≡ false) }
+    ensures { IfOk result (λ told. was_done told.end ≡ false) }
 {
     let why = "no line tells a call: it is no log of strace -f -n -e raw=all";
-    refused(alloc, "log", name, why)
+    refused(alloc, "log", name, why, End::Refused)
 }
 
 // The text of the bundle of calls for machines; and adds what is told of it.
@@ -109,7 +123,7 @@ fn text_on(
     bundle_of(alloc, machines, keeps, calls, &names, wish.otherwise)
 }
 
-// The same for the machines of the calls and those that are asked for.
+// The text of the bundle, for the machines of the calls and the machines that are asked for. Adds what is told of it.
 fn text_for(
     alloc: Global,
     native: Arch,
@@ -146,7 +160,7 @@ fn learn_calls(
     )
 }
 
-// The same, unless a log has no record.
+// The bundle of what logs show, and what is told of it; or what tells that a log has no record.
 fn learn_shown(
     alloc: Global,
     native: Arch,

@@ -88,7 +88,7 @@ pub(crate) const OF_CRUN: &[&str] = &[
     "write",
 ];
 
-/// The same of runc.
+/// What runc calls between the load of a filter and the program.
 pub(crate) const OF_RUNC: &[&str] = &[
     "capget",
     "capset",
@@ -116,7 +116,7 @@ pub(crate) const OF_RUNC: &[&str] = &[
     "write",
 ];
 
-/// The same of bubblewrap, whose process 1 waits for the program.
+/// What bubblewrap calls between the load of a filter and the program. Its process 1 waits for the program.
 pub(crate) const OF_BUBBLEWRAP: &[&str] = &["execve", "wait4"];
 
 /// What the process 1 calls that docker puts before a program with `--init` (tini, with a C library in it).
@@ -148,7 +148,8 @@ pub(crate) const OF_TINI: &[&str] = &[
     "write",
 ];
 
-/// The same of podman: catatonit, and tini and dumb-init with `--init-path`, which load a C library.
+/// What the process 1 calls that podman puts before a program: catatonit, or tini or dumb-init behind `--init-path`.
+/// They load a C library.
 pub(crate) const OF_INITS: &[&str] = &[
     "access",
     "arch_prctl",

@@ -1,7 +1,7 @@
 //! Logs played through a bundle.
 ghost use Rattle.std.specs.Prelude.{◌≡◌, ◌⊎◌, ◌++◌, [], codes, if◌then◌else◌, IfErr, IfOk, IfSome, length, string_bytes};
 ghost use Rattle.std.specs.List.{flat_map};
-ghost use Rattle.wording.specs.Told.{TellsLine};
+ghost use Rattle.wording.specs.Told.{RefusesBy};
 ghost use Rattle.profile_json.specs.Breaks.{Breaks};
 ghost use Rattle.profile_json.specs.Fault.{fault_of};
 ghost use Rattle.strace_logs.specs.Logged.{parts_of};
@@ -19,7 +19,7 @@ use profile::Profile;
 use profile_json::{EntryRules, ProfileError, read};
 use std::alloc::{AllocError, Global};
 use std::fmt::Write;
-use wording::{Told, refused_profile};
+use wording::{End, Told, refused_profile};
 
 // Adds how many of the records are refused.
 fn put_refused(text: &mut String, refused: usize, records: usize) -> Result<(), AllocError>
@@ -107,13 +107,13 @@ fn told_of(
     let text = text_of(alloc, all, calls, &refused, tells_unused)?;
     Ok(Told {
         bytes: text.into_bytes(),
-        done: refused.len() == 0,
+        end: End::of(refused.len() == 0),
     })
 }
 
 // The line that tells that a file is no log.
 fn no_log(alloc: Global, name: &str) -> Result<Told, AllocError>
-    ensures { IfOk result (TellsLine (codes "refused log " ++ name.now
+    ensures { IfOk result (RefusesBy (codes "refused log " ++ name.now
         ++ codes ": it is no log of strace -f -n -e raw=all: no line tells a call, or one has an argument that is no number")) }
 {
     let line = format!(in alloc;
@@ -121,7 +121,7 @@ fn no_log(alloc: Global, name: &str) -> Result<Told, AllocError>
     )?;
     Ok(Told {
         bytes: line.into_bytes(),
-        done: false,
+        end: End::Refused,
     })
 }
 

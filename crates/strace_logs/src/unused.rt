@@ -54,7 +54,7 @@ fn use_of(calls: &[LogCall<'_>], rule: &Rule) -> Use
     }
 }
 
-// The same of each rule.
+// For each rule, the name of its call, and whether it matches a call of the logs.
 fn uses_of(alloc: Global, calls: &[LogCall<'_>], rules: &[Rule]) -> Result<Vec<Use>, AllocError>
     ensures { IfOk result (λ uses. uses_now uses.items ≡ map (spec.use_of (all_logged calls.now)) rules.now) }
 {

@@ -62,7 +62,7 @@ fn add_call(
     }
 }
 
-// The same of calls.
+// Adds what is unlike of each of these calls.
 fn add_each(
     alloc: Global,
     profile: &Profile,

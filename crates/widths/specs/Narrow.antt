@@ -2,6 +2,7 @@
 use Rattle.std.specs.Prelude.{◌≡◌, ℕ, List, true}
 use Rattle.serde_json.specs.Data.{Data}
 use Rattle.machines.specs.declared.arch.Arch.{Arch}
+use Rattle.wording.specs.Told.{was_done}
 use Rattle.wording.specs.declared.told.Told.{Told}
 use Rattle.widths.specs.Alike.{IsNarrowed}
 use Rattle.widths.specs.Lowered.{AreLowered, ValuesFit, with_rules}
@@ -28,7 +29,7 @@ pub record IsWritten (native : Arch) (bundle written : List ℕ) : Type 0 where
 
 -- where it was done
 abbrev pub IsTold : Arch → List ℕ → Told → Type 0
-IsTold native bundle told = told.done ≡ true → IsWritten native bundle told.bytes.items
+IsTold native bundle told = was_done told.end ≡ true → IsWritten native bundle told.bytes.items
 
 abbrev pub IsNarrow : Arch → List ℕ → Narrowing → Type 0
 IsNarrow native bundle narrow = IsTold native bundle narrow.told

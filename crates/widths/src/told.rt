@@ -5,6 +5,7 @@ ghost use Rattle.profile.specs.declared.rules.Rule.{Rule as TheRule};
 ghost use Rattle.widths.specs.Narrow as spec;
 ghost use Rattle.widths.specs.Lowered.{AreLowered};
 ghost use Rattle.widths.specs.Narrowed.{AreNarrowed};
+ghost use Rattle.wording.specs.Told.{was_done};
 
 use crate::narrowing::{
     CutError, Plan, WHOLE, add_narrowed, fitting_stay, is_narrowed_of, lowered_rule, suits,
@@ -16,7 +17,7 @@ use machines::Arch;
 use profile::{Profile, Rule};
 use profile_json::{Bundle, Document, ProfileError, read_bundle};
 use std::alloc::{AllocError, Global};
-use wording::{Told, refused_profile};
+use wording::{End, Told, refused_profile};
 
 /// A bundle of a narrowed profile, or why there is none, and what was changed, a line each.
 #[derive(Drop)]
@@ -27,11 +28,11 @@ pub struct Narrowing {
 
 // What tells that there is no bundle, and nothing more on standard output.
 fn nothing(alloc: Global) -> Told
-    ensures { result.done ≡ false }
+    ensures { was_done result.end ≡ false }
 {
     Told {
         bytes: Vec::new(alloc),
-        done: false,
+        end: End::No,
     }
 }
 
@@ -118,17 +119,17 @@ fn confirmed(
     fitting_stay();
     match read_bundle(alloc, text.as_bytes(), native) {
         Ok(read) => {
-            let done = is_narrowed_of(profile, lowers, &read.profile, rules);
+            let is_narrowed = is_narrowed_of(profile, lowers, &read.profile, rules);
             Ok(Told {
                 bytes: text.into_bytes(),
-                done,
+                end: End::of(is_narrowed),
             })
         }
         Err(error) => refused_profile(alloc, error),
     }
 }
 
-// The same, unless the lowered rules cannot be narrowed.
+// The bundle, if it is seen to mean the narrowed profile. Nothing, if the lowered rules cannot be narrowed.
 fn checked_lowered(
     alloc: Global,
     native: Arch,
@@ -145,7 +146,7 @@ fn checked_lowered(
     }
 }
 
-// The same, unless the rules cannot be lowered.
+// The bundle, if it is seen to mean the narrowed profile. Nothing, if the rules cannot be lowered or narrowed.
 fn checked(alloc: Global, native: Arch, profile: &Profile, text: String) -> Result<Told, AllocError>
     ensures { (bundle : List ℕ) → spec.IsBundle native bundle profile.now → IfOk result (spec.IsTold native bundle) }
 {
@@ -187,7 +188,7 @@ fn narrowed_of(alloc: Global, document: &Document, bundle: &Bundle) -> Result<Na
 
 // What tells why a bundle is refused.
 fn refused(alloc: Global, error: ProfileError) -> Result<Narrowing, AllocError>
-    ensures { IfOk result (λ narrowing. narrowing.told.done ≡ false) }
+    ensures { IfOk result (λ narrowing. was_done narrowing.told.end ≡ false) }
 {
     Ok(Narrowing {
         told: refused_profile(alloc, error)?,

@@ -2,3 +2,4 @@ pub mod Deciding
 pub mod Texts
 pub mod Results
 pub mod Splits
+pub mod Ends

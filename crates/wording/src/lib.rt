@@ -12,4 +12,4 @@ pub use calls::{machine_of, machine_with, put_record};
 pub use lines::split_line;
 pub use phrases::{ActionText, ConditionText};
 pub use reason::{Reason, entry_at, is_match, reason_of};
-pub use told::{Told, refused_profile};
+pub use told::{End, Told, refused_profile};

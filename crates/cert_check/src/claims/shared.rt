@@ -154,8 +154,8 @@ impl Passage<'_> {
         first_open(self.profile, facts, outs, &mets, self.there, asked).is_none()
     }
 
-    // The same where the profile has few rules. A table is made in a function of its own, so that no other way makes room
-    // for it.
+    // For up to 512 rules: whether the claims there between two places of the chain follow. The table is made in a
+    // function of its own, so that no other way makes room for it.
     #[inline(never)]
     fn rest_follows_by_few<S: State>(
         &self,
@@ -168,7 +168,7 @@ impl Passage<'_> {
         self.rest_follows_by(facts, outs, asked, &mut [false; 6 * FEW_RULES])
     }
 
-    // The same where it has some more.
+    // For up to 2,048 rules: whether the claims there between two places of the chain follow.
     #[inline(never)]
     fn rest_follows_by_some<S: State>(
         &self,
@@ -181,7 +181,7 @@ impl Passage<'_> {
         self.rest_follows_by(facts, outs, asked, &mut [false; 6 * SOME_RULES])
     }
 
-    // The same where it has many.
+    // For up to 8,192 rules: whether the claims there between two places of the chain follow.
     #[inline(never)]
     fn rest_follows_by_many<S: State>(
         &self,

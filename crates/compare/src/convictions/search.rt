@@ -37,7 +37,7 @@ fn unlike(profile: &Profile, filter: &Accepted<'_>, call: Record) -> Option<Conv
     Some(Conviction { call, given, said })
 }
 
-// The same, but for the call of a record that is told already.
+// The verdicts on a record, where they are unlike and its call is not one that is told already.
 fn another(
     profile: &Profile,
     filter: &Accepted<'_>,

@@ -11,7 +11,7 @@ use bpf_insn::ViewError;
 use kernel_check::Refused;
 use machines::Arch;
 use std::alloc::{AllocError, Global};
-use wording::Told;
+use wording::{End, Told};
 
 // The lines of calls, and the word that says that the filters differ.
 fn differences_text(alloc: Global, changes: &[Change]) -> Result<String, AllocError>
@@ -49,12 +49,16 @@ fn text_of(alloc: Global, outcome: &Outcome) -> Result<String, AllocError>
     }
 }
 
-fn is_done(outcome: &Outcome) -> bool
-    ensures { result ≡ spec.is_done outcome.now }
+// How the command ends.
+fn end_of(outcome: &Outcome) -> End
+    ensures { result ≡ spec.ends outcome.now }
 {
     match outcome {
-        Outcome::Same => true,
-        _ => false,
+        Outcome::Same => End::Done,
+        Outcome::Differ(_) => End::No,
+        Outcome::NoneFound => End::No,
+        Outcome::NoProgram(_, _) => End::Refused,
+        Outcome::Refusal(_, _) => End::Refused,
     }
 }
 
@@ -72,6 +76,6 @@ pub fn compare_filters(
     let text = text_of(alloc, &outcome)?;
     Ok(Told {
         bytes: text.into_bytes(),
-        done: is_done(&outcome),
+        end: end_of(&outcome),
     })
 }

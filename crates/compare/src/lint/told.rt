@@ -10,7 +10,7 @@ use crate::lint::past::Finding;
 use crate::lint::text::text_of;
 use profile_json::{Bundle, Document};
 use std::alloc::{AllocError, Global};
-use wording::{Told, refused_profile};
+use wording::{End, Told, refused_profile};
 
 fn is_nothing(found: &Finding) -> bool
     ensures { result ≡ spec.is_nothing found.now }
@@ -29,11 +29,11 @@ fn judged(alloc: Global, document: &Document, bundle: &Bundle) -> Result<Told, A
     ensures { IfOk result (spec.IsJudged document.now.native document.now.bytes) }
 {
     let found = finding(alloc, document.native().family(), &bundle.profile)?;
-    let done = is_nothing(&found);
+    let end = End::of(is_nothing(&found));
     let text = text_of(alloc, document, bundle, &found)?;
     Ok(Told {
         bytes: text.into_bytes(),
-        done,
+        end,
     })
 }
 

@@ -12,7 +12,7 @@ use machines::{Arch, Family};
 use profile::Profile;
 use profile_json::{Document, EntryRules, ProfileError};
 use std::alloc::{AllocError, Global};
-use wording::{Told, refused_profile};
+use wording::{End, Told, refused_profile};
 
 // The text of what a profile says of a call.
 fn told(
@@ -64,7 +64,7 @@ pub fn explain_any(alloc: Global, document: &Document, word: &str) -> Result<Tol
         Some((arch, nr)) => match explanation(alloc, document, arch.token(), nr) {
             Ok(text) => Ok(Told {
                 bytes: text.into_bytes(),
-                done: true,
+                end: End::Done,
             }),
             Err(error) => refused_profile(alloc, error),
         },

@@ -8,7 +8,7 @@ ghost use Rattle.explain.specs.Audit as spec;
 ghost use Rattle.explain.specs.inner.Times.{counted_line};
 ghost use Rattle.profile_json.specs.Breaks.{Breaks};
 ghost use Rattle.profile_json.specs.Fault.{fault_of};
-ghost use Rattle.wording.specs.Told.{TellsLine};
+ghost use Rattle.wording.specs.Told.{RefusesBy};
 
 use crate::audited::event::{Answer, Event};
 use crate::audited::events::{
@@ -21,7 +21,7 @@ use profile::Profile;
 use profile_json::{Document, EntryRules, ProfileError};
 use std::alloc::{AllocError, Global};
 use std::fmt::Write;
-use wording::{ActionText, Told, refused_profile};
+use wording::{ActionText, End, Told, refused_profile};
 
 // Adds how many lines tell an event.
 fn put_count(text: &mut String, count: usize) -> Result<(), AllocError>
@@ -181,11 +181,11 @@ fn text_of(
 
 // The line that tells that no line is of a filter's answer.
 fn no_event(alloc: Global) -> Result<Told, AllocError>
-    ensures { IfOk result (TellsLine (codes "refused lines: none has arch, syscall and code")) }
+    ensures { IfOk result (RefusesBy (codes "refused lines: none has arch, syscall and code")) }
 {
     Ok(Told {
         bytes: Vec::from_slice(alloc, b"refused lines: none has arch, syscall and code\n")?,
-        done: false,
+        end: End::Refused,
     })
 }
 
@@ -226,7 +226,7 @@ fn told_of(
     let text = text_of(alloc, family, profile, all, events, unread)?;
     Ok(Told {
         bytes: text.into_bytes(),
-        done: is_done(profile, events, unread),
+        end: End::of(is_done(profile, events, unread)),
     })
 }
 

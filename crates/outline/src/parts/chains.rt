@@ -137,8 +137,8 @@ impl Chains {
         }
     }
 
-    // The same behind the beginning of a chain, as far as it states some of the claims. Also returns whether what comes after
-    // that states none of them.
+    // The chain that goes on behind the beginning of one before, with as many of the claims as are found. Also returns
+    // whether what comes after that beginning states none of them.
     fn begun_as(
         &mut self,
         alloc: Global,

@@ -13,7 +13,7 @@ pub fn followers(kind: Kind) -> (u32, u32) {
     }
 }
 
-/// The same, leading to others.
+/// A node of this kind that leads to two others.
 pub fn leading_to(kind: Kind, first: u32, second: u32) -> Kind {
     match kind {
         Kind::Step(_, _) => Kind::Step(first, second),

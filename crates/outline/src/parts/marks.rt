@@ -95,7 +95,7 @@ impl Marks {
         false
     }
 
-    /// Whether a claim is there, which it is no more then.
+    /// Removes a claim. Returns whether it was there.
     pub(crate) fn take(&mut self, claim: Claim) -> bool {
         match claim {
             Claim::Knows(literal) => self.take_literal(literal),

@@ -220,7 +220,7 @@ fn finish(trimmer: Trimmer<'_>) -> Option<Trimmed> {
     })
 }
 
-// The same of a text.
+// A text with 0 for each member whose key is none of these, if it is one whole value.
 fn trimmed_text(alloc: Global, text: &str, keys: &[&str]) -> Result<Option<Trimmed>, AllocError> {
     let mut scratch = Scratch::new(alloc);
     let reader = Reader::new(text, &mut scratch)?;

@@ -85,7 +85,7 @@ fn find(table: &[(&str, [Reading; 6])], name: &str) -> Option<[Reading; 6]>
     None
 }
 
-// The same in the later parts of the table of 64-bit kernels.
+// What stands beside a name in the later parts of the table of 64-bit kernels, from the third on.
 fn from_third(name: &str) -> Option<[Reading; 6]>
     ensures { result ≡ readings_among tables.from_third name.now }
 {

@@ -15,5 +15,5 @@ returns-in-Ok c =
       call = c.in-Some.call;
       is_call = call;
       explains = rw c.into_bytes.ensures.value c.in-Ok.ensures.explains;
-      done = refl;
+      end = refl;
     }))

@@ -15,5 +15,5 @@ returns c =
       is_asked = call;
       whole = c.in_ok-told.ensures.whole;
       same = c.in_ok-told.ensures.same;
-      done = c.in_ok-told.ensures.done;
+      end = c.in_ok-told.ensures.end;
     })

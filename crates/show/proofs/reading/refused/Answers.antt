@@ -1,7 +1,8 @@
-use Rattle.std.proofs.Common.{◌≡◌, ◌++◌, ◌∷◌, List, ℕ, false, subst, sym}
+use Rattle.std.proofs.Common.{◌≡◌, ◌++◌, ◌∷◌, List, ℕ, subst, sym}
 use Rattle.std.specs.Prelude.{codes, string_bytes}
 use Rattle.texts.specs.Lines.{line_feed}
 use Rattle.profile_json.specs.Fault.{text_of}
+use Rattle.wording.specs.declared.told.End.TheVariants.{Refused}
 use Rattle.wording.specs.declared.told.Told.{Told}
 use Rattle.wording.proofs.Results.{if_ok_both}
 use Rattle.show.specs.Read.{IsPlaceLine}
@@ -13,8 +14,8 @@ returns c =
     let line = c.deref.result.now in
     let error = c.args.refusal.now.error in
     if_ok_both (λ (told : Told). told.bytes.items ≡ text ++ (codes "refused profile " ++ (text_of error ++ line_feed ∷ line)))
-    (λ (told : Told). told.done ≡ false)
-    (λ (told : Told). (told.done ≡ false) × ((l : List ℕ) × IsPlaceLine c.args.refusal.now.place l × (told.bytes.items
+    (λ (told : Told). told.end ≡ Refused)
+    (λ (told : Told). (told.end ≡ Refused) × ((l : List ℕ) × IsPlaceLine c.args.refusal.now.place l × (told.bytes.items
     ≡ text ++ (codes "refused profile " ++ (text_of error ++ line_feed ∷ l)))))
-    (λ told is done. (done, (line, subst (IsPlaceLine c.args.refusal.now.place) (sym c.deref.ensures) c.in_ok-line.ensures, is)))
-    c.refused_at.result c.refused_at.ensures.text c.refused_at.ensures.done
+    (λ told is end. (end, (line, subst (IsPlaceLine c.args.refusal.now.place) (sym c.deref.ensures) c.in_ok-line.ensures, is)))
+    c.refused_at.result c.refused_at.ensures.text c.refused_at.ensures.end

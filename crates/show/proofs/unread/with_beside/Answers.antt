@@ -7,15 +7,15 @@ use Rattle.show.specs.Unread.{TellsBeside}
 use Rattle.show.proofs.unread.with_beside.Goals as goal
 
 pub returns-then-not-told : goal.returns-then-not-told
-returns-then-not-told c = inl (not-true c.args.told.done c.if-not-told.true, refl)
+returns-then-not-told c = inl (sym c.is_done.ensures ∙ not-true c.is_done.result c.if-not-is_done.true, refl)
 
 pub returns : goal.returns
 returns c =
     let native = c.args.native in
     let bundle = c.args.bundle.now in
     let lines = c.deref.result.now in
-    let done = not-false c.args.told.done c.if-not-told.false in
-    if_ok_both (λ (new : Told). new.bytes.items ≡ c.args.told.bytes.items ++ lines) (λ (new : Told). new.done ≡ c.args.told.done)
+    let done = sym c.is_done.ensures ∙ not-false c.is_done.result c.if-not-is_done.false in
+    if_ok_both (λ (new : Told). new.bytes.items ≡ c.args.told.bytes.items ++ lines) (λ (new : Told). new.end ≡ c.args.told.end)
     (TellsBeside native bundle c.args.told)
     (λ new bytes same. inr (
       done,
@@ -23,7 +23,7 @@ returns c =
         lines = lines;
         beside = subst (AreBeside native bundle) (sym c.deref.ensures.value) c.in_ok-lines.ensures;
         bytes = bytes;
-        done = same ∙ done;
+        end = same;
       },
     ))
-    c.with_lines.result c.with_lines.ensures.bytes c.with_lines.ensures.done
+    c.with_lines.result c.with_lines.ensures.bytes c.with_lines.ensures.end

@@ -10,12 +10,12 @@ returns c =
     let native = c.args.native in
     let bundle = c.args.bundle.now in
     let lines = c.deref.result.now in
-    if_ok_both (λ (new : Told). new.bytes.items ≡ c.args.told.bytes.items ++ lines) (λ (new : Told). new.done ≡ c.args.told.done)
+    if_ok_both (λ (new : Told). new.bytes.items ≡ c.args.told.bytes.items ++ lines) (λ (new : Told). new.end ≡ c.args.told.end)
     (TellsUnread native bundle c.args.told)
-    (λ new bytes done. record {
+    (λ new bytes end. record {
       lines = lines;
       unread = subst (AreUnread native bundle) (sym c.deref.ensures.value) c.in_ok-lines.ensures;
       bytes = bytes;
-      done = done;
+      end = end;
     })
-    c.with_lines.result c.with_lines.ensures.bytes c.with_lines.ensures.done
+    c.with_lines.result c.with_lines.ensures.bytes c.with_lines.ensures.end

@@ -9,5 +9,5 @@ returns c = record {
       rw c.into_bytes.ensures.value (c.in_ok-line.ensures.ok
       ∙ sym (ap (λ (l : List ℕ). codes "refused log " ++ l)
       (append_assoc c.args.name.now (codes ": it is no log of strace -f -n -e raw=all: no line tells a call, or one has an argument that is no number") (line_feed ∷ []))));
-  done = refl;
+  end = refl;
 }

@@ -17,7 +17,7 @@ returns-clause-told c =
             read = record { t = means.0; is_text = means.1; means = means.2; are = c.in-Ok.ensures.rules };
             are_logs = plays.are_logs;
             tells = plays.tells;
-            done = plays.done;
+            ends = plays.ends;
           })
     ]
 

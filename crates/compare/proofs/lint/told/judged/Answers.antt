@@ -1,6 +1,7 @@
 use Rattle.std.proofs.Common.{ap, subst, ◌∙◌}
 use Rattle.machines.specs.Arch.{family_of}
 use Rattle.machines.specs.declared.arch.Family.{Family}
+use Rattle.wording.specs.Told.{end_of}
 use Rattle.compare.specs.Past.{IsFinding}
 use Rattle.compare.proofs.lint.told.judged.Goals as goal
 
@@ -10,6 +11,6 @@ returns c = record {
   means = c.requires.means;
   found = c.in_ok-found.found;
   is = subst (λ (family : Family). IsFinding family c.args.bundle.now.profile c.in_ok-found.found) (c.family.ensures ∙ ap family_of c.native.ensures) c.in_ok-found.ensures;
-  done = c.is_nothing-done.ensures;
+  end = c.of-end.ensures ∙ ap end_of c.is_nothing.ensures;
   text = rw c.into_bytes.ensures.value c.in_ok-text.ensures;
 }

@@ -21,5 +21,5 @@ returns-in-Ok c =
       nr = c.in-Some.nr;
       is_what = found;
       explains = rw c.into_bytes.ensures.value (rw c.token.ensures at c.in-Ok.ensures.explains);
-      done = refl;
+      end = refl;
     }))
