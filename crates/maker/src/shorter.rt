@@ -12,7 +12,7 @@ use bpf_insn::Program;
 use certify::{CertifyError, certify_accepted};
 use kernel_check::{Accepted, accept};
 use profile::Profile;
-use rule_compile::{Known, Planned, Shorter};
+use rule_compile::{Known, Outline, Planned, Shorter};
 use std::alloc::{AllocError, Global};
 
 // A certificate that follows each path. None is looked for if a call has more rules than a node has claims: it would come out too large.
@@ -29,15 +29,16 @@ fn by_paths(
     }
 }
 
-// A certificate of a filter in which questions for bits of one word were put together: from the outline of the compiler's own, or else one
-// that follows each path.
+// A certificate of a filter in which questions for bits of one word were put together: from its outline, or else one that
+// follows each path.
 fn of_merged(
     alloc: Global,
     profile: &Profile,
     accepted: &Accepted<'_>,
     own: &Planned,
+    outline: &Outline,
 ) -> Result<Vec<u8>, CertifyError> {
-    match by_merged(alloc, profile, *accepted, &own.outline) {
+    match by_merged(alloc, profile, *accepted, outline) {
         Ok(Hand::Certificate(bytes)) => Ok(bytes),
         Ok(_) => by_paths(alloc, profile, accepted, own),
         Err(error) => Err(error),
@@ -55,7 +56,7 @@ fn certificate_of(
     match known {
         Known::AsOwn => propose_shared(alloc, profile, accepted, &own.outline),
         Known::Outline(outline) => propose_shared(alloc, profile, accepted, outline),
-        Known::Nothing => of_merged(alloc, profile, accepted, own),
+        Known::Merged(outline) => of_merged(alloc, profile, accepted, own, outline),
     }
 }
 

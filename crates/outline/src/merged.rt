@@ -4,7 +4,7 @@
 //! told after the other. The first is the one that is left of the rule of which the fewest bits are not known.
 
 use crate::asked::{Left, LeftRule};
-use crate::conditions::{Answer, bits_of, by_all, cut_of, low_word};
+use crate::conditions::{Answer, bits_of, by_all, by_high, cut_of, low_word};
 use crate::fault::OutlineError;
 use crate::learning::all_bits;
 use crate::maker::Maker;
@@ -66,14 +66,15 @@ fn cut_of_free(known: &Words, cond: &Cond, is_high: bool) -> Option<Cut> {
 }
 
 // Where an open condition is cut.
-fn cut_of_open(known: &Words, narrow: bool, cond: &Cond, is_low: bool) -> Option<Cut> {
+fn cut_of_open<K: Knowledge>(known: &Told<'_, K>, narrow: bool, cond: &Cond) -> Option<Cut> {
     if cond.op != Op::MaskedEq {
-        return cut_of(known, narrow, cond, is_low);
+        let is_low = by_high(known, narrow, cond) == Answer::Low;
+        return cut_of(known.words, narrow, cond, is_low);
     }
-    if !narrow && let Some(cut) = cut_of_free(known, cond, true) {
+    if !narrow && let Some(cut) = cut_of_free(known.words, cond, true) {
         return Some(cut);
     }
-    cut_of_free(known, cond, false)
+    cut_of_free(known.words, cond, false)
 }
 
 // What is known of a rule that is not out: how many bits for which its open conditions ask are not known, and where the first of these
@@ -97,7 +98,7 @@ fn openness<K: Knowledge>(known: &Told<'_, K>, rule: &Rule) -> Option<Openness> 
             let count = count_of_free(known.words, narrow, cond);
             open.bits = open.bits.saturating_add(count);
             if open.cut.is_none() {
-                open.cut = cut_of_open(known.words, narrow, cond, answer == Answer::Low);
+                open.cut = cut_of_open(known, narrow, cond);
             }
         }
     }
@@ -171,20 +172,20 @@ impl<'a> Maker<'a> {
         })
     }
 
-    /// Settles the rules of a spot's call by all that is known of its arguments.
+    /// Settles the rules of a spot's call by all that is known of its arguments, and says this in short. In short more may follow, which is
+    /// found only at the next spot: so it is for the checker.
     pub(crate) fn settle_by_all(&self, spot: &Spot) -> Result<(Left, Words), OutlineError> {
         let (Some(left), Some(known)) = (self.left.get(spot.left), self.words.get(spot.arguments))
         else {
             return Err(OutlineError::Unlike);
         };
-        let known = known.in_short(self.alloc)?;
         let all = known.all(self.alloc)?;
         let state = listed(&all);
         let left = self.left_by(&known.told_by_all(&state), left, self.verdict_at(spot.pc))?;
         if left.holds {
             return Ok((left, Words::none(self.alloc)));
         }
-        Ok((left, known))
+        Ok((left, known.in_short(self.alloc)?))
     }
 
     // Where what is known is cut for the sake of the rule of which the fewest bits are not known. If the verdict is the default, it is a

@@ -326,7 +326,7 @@ fn gather(alloc: Global, profile: &Profile, blocks: &mut Blocks) -> Result<Vec<N
 #[derive(Drop)]
 pub(crate) struct Shared {
     pub(crate) planned: Planned,
-    /// Whether blocks were put together: then its outline tells less than what is asked.
+    /// Whether blocks were put together that stand apart in its outline.
     pub(crate) is_merged: bool,
 }
 

@@ -18,8 +18,8 @@ pub enum Known {
     AsOwn,
     /// Another outline.
     Outline(Outline),
-    /// Too little: each path has to be followed.
-    Nothing,
+    /// Another outline, in which blocks that ask for bits of one word still stand apart.
+    Merged(Outline),
 }
 
 /// A filter that is shorter than the compiler's own, as the bytes of its instructions.
@@ -90,7 +90,7 @@ pub fn shorten(
     };
     let Planned { insns, outline } = planned;
     let known = if is_merged {
-        Known::Nothing
+        Known::Merged(outline)
     } else {
         Known::Outline(outline)
     };

@@ -56,7 +56,7 @@ pub(crate) fn by_outline(
     by_calls(alloc, profile, program, &calls)
 }
 
-/// The certificate of a filter in which questions for bits of one word were put together, written from the outline of the compiler's own.
+/// The certificate of a filter in which questions for bits of one word were put together, written from its outline.
 pub(crate) fn by_merged(
     alloc: Global,
     profile: &Profile,
@@ -125,7 +125,7 @@ pub(crate) fn by_same_outline(
         Ok(Some(made)) if made.bytes.as_slice() == program.program().bytes() => match &made.known {
             Known::AsOwn => by_outline(alloc, profile, program, &own.outline),
             Known::Outline(outline) => by_outline(alloc, profile, program, outline),
-            Known::Nothing => by_merged(alloc, profile, program, &own.outline),
+            Known::Merged(outline) => by_merged(alloc, profile, program, outline),
         },
         Ok(_) => Ok(Hand::Nothing),
         Err(_) => Err(CertifyError::OutOfMemory),
