@@ -5,7 +5,9 @@ ghost use Rattle.std.specs.Prelude.{◌≡◌, IfErr};
 ghost use Rattle.certify.specs.declared.error.CertifyError.TheVariants as maker;
 ghost use Rattle.maker.specs.declared.unready.Unready.TheVariants.{OutOfMemory};
 
-use crate::evidence::{Hand, are_plain, by_merged, bytes_of, has_too_many, propose_shared, shortened};
+use crate::evidence::{
+    Hand, are_plain, by_merged, bytes_of, has_too_many, propose_shared, shortened,
+};
 use crate::proposal::Proposal;
 use crate::unready::Unready;
 use bpf_insn::Program;

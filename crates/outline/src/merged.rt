@@ -86,7 +86,7 @@ struct Openness {
 }
 
 // How open a rule is, if it is not out.
-fn openness<K: Knowledge>(known: &Told<'_, K>, rule: &Rule) -> Option<Openness> {
+fn how_open<K: Knowledge>(known: &Told<'_, K>, rule: &Rule) -> Option<Openness> {
     let narrow = rule.is_narrow();
     let mut open = Openness { bits: 0, cut: None };
     for cond in rule.conds.iter() {
@@ -151,7 +151,7 @@ impl<'a> Maker<'a> {
             let Some(rule) = self.rule(own.rule) else {
                 continue;
             };
-            match openness(known, rule) {
+            match how_open(known, rule) {
                 Some(open) if open.bits == 0 && verdict == Some(rule.word.0) => {
                     let holding = LeftRule {
                         rule: own.rule,
@@ -206,7 +206,7 @@ impl<'a> Maker<'a> {
             let Some(rule) = self.rule(own.rule) else {
                 continue;
             };
-            let Some(open) = openness(known, rule) else {
+            let Some(open) = how_open(known, rule) else {
                 continue;
             };
             let is_same = rule.word.0 == verdict;
@@ -239,10 +239,12 @@ impl<'a> Maker<'a> {
         }
         let all = known.all(self.alloc)?;
         let state = listed(&all);
-        Ok(match self.cut_of_nearest(&known.told_by_all(&state), left, verdict) {
-            Some(Openness { cut: None, .. }) => cut_of_excluded(known),
-            Some(nearest) => nearest.cut,
-            None => None,
-        })
+        Ok(
+            match self.cut_of_nearest(&known.told_by_all(&state), left, verdict) {
+                Some(Openness { cut: None, .. }) => cut_of_excluded(known),
+                Some(nearest) => nearest.cut,
+                None => None,
+            },
+        )
     }
 }
