@@ -15,6 +15,7 @@ mod own;
 
 pub(crate) use asked::has_too_many;
 pub use evidence::{Conviction, Evidence, judge};
+pub(crate) use hand::Hand;
 pub use law::{compiled_is_right, shape_is_right, table_profiles_are_plain};
 pub(crate) use maker::{are_plain, propose, propose_shared};
-pub(crate) use own::{bytes_of, shortened};
+pub(crate) use own::{by_merged, bytes_of, shortened};

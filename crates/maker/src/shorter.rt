@@ -5,14 +5,16 @@ ghost use Rattle.std.specs.Prelude.{◌≡◌, IfErr};
 ghost use Rattle.certify.specs.declared.error.CertifyError.TheVariants as maker;
 ghost use Rattle.maker.specs.declared.unready.Unready.TheVariants.{OutOfMemory};
 
-use crate::evidence::{are_plain, bytes_of, has_too_many, propose_shared, shortened};
+use crate::evidence::{
+    Hand, are_plain, by_merged, bytes_of, has_too_many, propose_shared, shortened,
+};
 use crate::proposal::Proposal;
 use crate::unready::Unready;
 use bpf_insn::Program;
 use certify::{CertifyError, certify_accepted};
 use kernel_check::{Accepted, accept};
 use profile::Profile;
-use rule_compile::{Known, Planned, Shorter};
+use rule_compile::{Known, Outline, Planned, Shorter};
 use std::alloc::{AllocError, Global};
 
 // A certificate that follows each path. None is looked for if a call has more rules than a node has claims: it would come out too large.
@@ -29,6 +31,22 @@ fn by_paths(
     }
 }
 
+// A certificate of a filter in which questions for bits of one word were put together: from its outline, or else one that
+// follows each path.
+fn of_merged(
+    alloc: Global,
+    profile: &Profile,
+    accepted: &Accepted<'_>,
+    own: &Planned,
+    outline: &Outline,
+) -> Result<Vec<u8>, CertifyError> {
+    match by_merged(alloc, profile, *accepted, outline) {
+        Ok(Hand::Certificate(bytes)) => Ok(bytes),
+        Ok(_) => by_paths(alloc, profile, accepted, own),
+        Err(error) => Err(error),
+    }
+}
+
 // A certificate, by what is known of the filter.
 fn certificate_of(
     alloc: Global,
@@ -40,7 +58,7 @@ fn certificate_of(
     match known {
         Known::AsOwn => propose_shared(alloc, profile, accepted, &own.outline),
         Known::Outline(outline) => propose_shared(alloc, profile, accepted, outline),
-        Known::Nothing => by_paths(alloc, profile, accepted, own),
+        Known::Merged(outline) => of_merged(alloc, profile, accepted, own, outline),
     }
 }
 

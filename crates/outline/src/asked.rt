@@ -11,6 +11,8 @@ pub struct AskedCall {
     pub number: u32,
     /// The places of these rules in the profile's order, in the parts in which they are asked, one after the other.
     pub parts: Vec<Vec<u32>>,
+    /// Whether the filter asks at once for bits of one word for which rules ask apart. Then all rules stand in one part.
+    pub is_merged: bool,
 }
 
 /// A rule that may hold: by bits, which of its conditions are met, and of which the low half decides.

@@ -117,6 +117,7 @@ impl<'a> Maker<'a> {
         match spot.which {
             Which::Several => self.cut_of_calls(spot, Some(verdict), rooms),
             Which::Plain => Ok(None),
+            Which::Asked(call) if self.is_merged(call) => self.cut_by_all(spot, verdict),
             Which::Asked(_) => self.cut_of_call(spot, true),
         }
     }
@@ -133,6 +134,7 @@ impl<'a> Maker<'a> {
                 self.cut_of_calls(spot, None, rooms)
             }
             Which::Several | Which::Plain => Ok(None),
+            Which::Asked(call) if self.is_merged(call) => Ok(None),
             Which::Asked(_) => self.cut_of_call(spot, false),
         }
     }

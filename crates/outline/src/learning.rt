@@ -296,6 +296,12 @@ impl<'a> Maker<'a> {
         else {
             return Err(OutlineError::Unlike);
         };
+        if self.is_merged(call) {
+            let (left, known) = self.settle_by_all(spot)?;
+            spot.left = self.left.place(left)?;
+            spot.arguments = self.words.place(known)?;
+            return Ok(());
+        }
         let is_settled = left.holds || left.rules.is_empty();
         if is_settled || left.is_late && told_again.is_some() {
             return Ok(());

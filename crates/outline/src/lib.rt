@@ -6,6 +6,9 @@
 //! asks anything of it. Paths that are then alike share their nodes. Where the compiler went on alike for numbers that are unlike, what is
 //! known is cut in two.
 //!
+//! Of some calls the compiler asks at once for bits of a word for which rules ask apart (`merged`). All that is known of these calls is
+//! kept, and no node states which of their rules are out.
+//!
 //! The maker is not trusted, and promises nothing of what it writes: whoever relies on a certificate has it checked.
 #![tactic(auto)]
 
@@ -19,6 +22,7 @@ mod learning;
 mod listing;
 mod maker;
 mod making;
+mod merged;
 mod needs;
 mod numbers;
 mod order;

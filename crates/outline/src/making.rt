@@ -89,6 +89,9 @@ fn finished(drafted: Drafted<'_>) -> Result<Vec<u8>, OutlineError> {
 /// Whether a call has more rules than a node has claims, of which most nodes of the call state that they are out.
 pub fn are_too_many(calls: &[AskedCall]) -> bool {
     for call in calls {
+        if call.is_merged {
+            continue;
+        }
         let mut rules = 0usize;
         for part in &call.parts {
             rules = rules.saturating_add(part.len());

@@ -53,13 +53,6 @@ fn only(known: &Words, word: u8) -> Option<u32> {
     None
 }
 
-// All that is known of the machine and the number, of whole words and of bits.
-fn all_of(alloc: Global, known: &Words) -> Result<Vec<Lit>, AllocError> {
-    let mut lits = Vec::from_slice(alloc, &known.whole)?;
-    lits.extend_from_slice(&known.masked)?;
-    Ok(lits)
-}
-
 // The number is cut in front of one, if there are numbers of a range on both sides.
 fn cut_within(range: (u32, u32), number: u32) -> Option<Cut> {
     let (least, greatest) = range;
@@ -204,7 +197,7 @@ impl<'a> Maker<'a> {
         verdict: u32,
         rooms: &mut Rooms,
     ) -> Result<Option<u32>, AllocError> {
-        let all = all_of(self.alloc, known)?;
+        let all = known.all(self.alloc)?;
         let state = listed(&all);
         let whole = listed(&arguments.whole);
         if let Some((_token, number, place)) = rules.get(rules.len() / 2)
@@ -358,7 +351,7 @@ impl<'a> Maker<'a> {
         let Some(token) = only(known, TOKEN) else {
             return Ok(None);
         };
-        let numbers = self.numbers_asked(&all_of(self.alloc, known)?, token, rooms)?;
+        let numbers = self.numbers_asked(&known.all(self.alloc)?, token, rooms)?;
         match numbers.get(numbers.len() / 2) {
             Some(number) => Ok(beside(known, NUMBER, *number)),
             None => Ok(None),

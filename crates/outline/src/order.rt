@@ -29,6 +29,7 @@ fn add_rule(
             token,
             number,
             parts,
+            is_merged: false,
         })?;
     }
     if let Some(last) = calls.last_mut()
@@ -197,6 +198,7 @@ pub fn asked_by(
             token: own.token,
             number: own.number,
             parts: maker.parts_of(own, place, &mut pace)?,
+            is_merged: false,
         })?;
     }
     Ok(calls)

@@ -106,6 +106,7 @@ impl<'a> Maker<'a> {
         };
         if let Some(call) = self.calls.get(call)
             && !left.holds
+            && !call.is_merged
         {
             self.rules_stated(call, left, stated);
         }

@@ -20,12 +20,14 @@ pub(crate) struct Words {
 pub(crate) struct Told<'a, K: Knowledge> {
     pub(crate) words: &'a Words,
     pub(crate) whole: &'a K,
+    /// Whether it is asked of all literals, those of bits under masks among them.
+    pub(crate) is_of_all: bool,
 }
 
 impl<K: Knowledge> Told<'_, K> {
-    /// Whether a literal is known, by those of the same bits.
+    /// Whether a literal is known, by those of the same bits or by all.
     pub(crate) fn entail(&self, literal: Lit) -> bool {
-        if is_whole(literal) {
+        if self.is_of_all || is_whole(literal) {
             return self.whole.entails(&literal);
         }
         for other in &self.words.masked {
@@ -86,7 +88,57 @@ impl Words {
 
     /// These words, and what answers for the whole ones.
     pub(crate) fn told<'a, K: Knowledge>(&'a self, whole: &'a K) -> Told<'a, K> {
-        Told { words: self, whole }
+        let is_of_all = false;
+        Told {
+            words: self,
+            whole,
+            is_of_all,
+        }
+    }
+
+    /// The same, with what all its literals are asked of.
+    pub(crate) fn told_by_all<'a, K: Knowledge>(&'a self, all: &'a K) -> Told<'a, K> {
+        Told {
+            words: self,
+            whole: all,
+            is_of_all: true,
+        }
+    }
+
+    /// All literals, of whole words and of bits.
+    pub(crate) fn all(&self, alloc: Global) -> Result<Vec<Lit>, AllocError> {
+        let mut lits = Vec::from_slice(alloc, &self.whole)?;
+        lits.extend_from_slice(&self.masked)?;
+        Ok(lits)
+    }
+
+    /// The bits of a word that are known, and what they are.
+    pub(crate) fn bits_at(&self, word: u8) -> (u32, u32) {
+        let (mut known, mut bits) = (0, 0);
+        for literal in self.whole.iter().chain(self.masked.iter()) {
+            if let Lit::Bits(of, mask, datum) = *literal
+                && of == word
+            {
+                known |= mask;
+                bits |= datum;
+            }
+        }
+        (known, bits)
+    }
+
+    /// The same, where one literal tells all bits of a word that are known, and none tells what follows from these.
+    pub(crate) fn in_short(&self, alloc: Global) -> Result<Words, AllocError> {
+        let mut words = Words::none(alloc);
+        for literal in self.whole.iter().chain(self.masked.iter()) {
+            let (known, bits) = self.bits_at(literal.word());
+            match *literal {
+                Lit::Bits(word, _, _) => words.add_once(Lit::Bits(word, known, bits))?,
+                Lit::NotBits(_, mask, datum) if known & mask & (bits ^ datum) != 0 => {}
+                _ => words.add(*literal)?,
+            }
+        }
+        words.are_dead = self.are_dead;
+        Ok(words)
     }
 
     // Adds a literal as it is.
@@ -97,6 +149,14 @@ impl Words {
             self.masked.push(literal)?;
         }
         Ok(())
+    }
+
+    // The same, if it is not there.
+    fn add_once(&mut self, literal: Lit) -> Result<(), AllocError> {
+        if self.whole.contains(&literal) || self.masked.contains(&literal) {
+            return Ok(());
+        }
+        self.add(literal)
     }
 
     /// Adds the literals among some claims, as they are.

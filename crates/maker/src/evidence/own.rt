@@ -3,7 +3,7 @@ ghost use Rattle.std.specs.Prelude.{◌≡◌, ◌↔◌, Err, IfErr, Ok};
 ghost use Rattle.certify.specs.declared.error.CertifyError.TheVariants.{OutOfMemory};
 ghost use Rattle.maker.specs.declared.evidence.hand.Hand.TheVariants.{TooLarge};
 
-use crate::evidence::asked::asked_calls;
+use crate::evidence::asked::{asked_calls, merged_calls};
 use crate::evidence::hand::Hand;
 use bpf_insn::{Insn, MAX_INSNS, encode_into};
 use certify::CertifyError;
@@ -51,6 +51,21 @@ pub(crate) fn by_outline(
     ensures { IfErr result (λ e. e ≡ OutOfMemory) }
 {
     let Ok(calls) = asked_calls(alloc, outline) else {
+        return Err(CertifyError::OutOfMemory);
+    };
+    by_calls(alloc, profile, program, &calls)
+}
+
+/// The certificate of a filter in which questions for bits of one word were put together, written from its outline.
+pub(crate) fn by_merged(
+    alloc: Global,
+    profile: &Profile,
+    program: Accepted<'_>,
+    outline: &Outline,
+) -> Result<Hand, CertifyError>
+    ensures { IfErr result (λ e. e ≡ OutOfMemory) }
+{
+    let Ok(calls) = merged_calls(alloc, outline) else {
         return Err(CertifyError::OutOfMemory);
     };
     by_calls(alloc, profile, program, &calls)
@@ -110,7 +125,7 @@ pub(crate) fn by_same_outline(
         Ok(Some(made)) if made.bytes.as_slice() == program.program().bytes() => match &made.known {
             Known::AsOwn => by_outline(alloc, profile, program, &own.outline),
             Known::Outline(outline) => by_outline(alloc, profile, program, outline),
-            Known::Nothing => Ok(Hand::Nothing),
+            Known::Merged(outline) => by_merged(alloc, profile, program, outline),
         },
         Ok(_) => Ok(Hand::Nothing),
         Err(_) => Err(CertifyError::OutOfMemory),
