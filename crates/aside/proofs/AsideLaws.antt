@@ -12,8 +12,8 @@ use Rattle.cert_check.specs.Right.{IsRight}
 use Rattle.maker.specs.declared.evidence.evidence.Conviction.{Conviction}
 use Rattle.maker.specs.declared.evidence.evidence.Evidence.{Evidence}
 use Rattle.maker.specs.declared.evidence.evidence.Evidence.TheVariants.{Certificate, Convicting}
-use Rattle.maker.specs.declared.unready.Unready.{Unready}
-use Rattle.maker.specs.declared.unready.Unready.TheVariants.{Profile, Compile, Certify, Check, OutOfMemory}
+use Rattle.maker.specs.declared.make_error.MakeError.{MakeError}
+use Rattle.maker.specs.declared.make_error.MakeError.TheVariants.{Profile, Compile, Certify, Check, OutOfMemory}
 use Rattle.maker.specs.Certified.{IsJudgement}
 use Rattle.maker.specs.Finding.{IsBundle}
 use Rattle.profile.specs.Policy.{Policy, Says}
@@ -41,7 +41,7 @@ right_too policy p q aside same right = record {
   refused = λ r is h. absurd (any_nil (IsOf r) h);
 }
 
-pub open_of : (native : Arch) (bundle filter : List ℕ) (e : Unready) → AreTaken native bundle filter → IsUndecided e → e ≢ OutOfMemory
+pub open_of : (native : Arch) (bundle filter : List ℕ) (e : MakeError) → AreTaken native bundle filter → IsUndecided e → e ≢ OutOfMemory
     → IsOpenBut native bundle filter e
 open_of native bundle filter (Certify e) taken is ne = (is, taken)
 open_of native bundle filter (Profile e) taken is ne = is
@@ -90,7 +90,7 @@ module _ (native : Arch) (bundle filter rest : List ℕ) (answered aside : List 
     refused = λ r is h. (left policy answered spares r h, spares.mild);
   }
 
-  pub joined_judged : (policy : Policy) → IsBundle native bundle policy → Spares policy answered → (judged : Result Evidence Unready)
+  pub joined_judged : (policy : Policy) → IsBundle native bundle policy → Spares policy answered → (judged : Result Evidence MakeError)
       → IsJudgedBut native bundle filter [] (answered ++ aside) judged → IsJudgedBut native bundle filter answered aside judged
   joined_judged policy means spares (Ok (Certificate bytes)) right =
       let same : right.0 ≡ policy = one_policy native bundle right.0 policy right.1 means in (
@@ -108,13 +108,13 @@ module _ (native : Arch) (bundle filter rest : List ℕ) (answered aside : List 
 
 -- ---- what was found
 
-abbrev pub judged_as : Evidence → Result Evidence Unready
+abbrev pub judged_as : Evidence → Result Evidence MakeError
 judged_as evidence = Ok evidence
 
-pub ok_of : (judged : Result Evidence Unready) (e found : Evidence) → judged ≡ judged_as e → e ≡ found → judged ≡ judged_as found
+pub ok_of : (judged : Result Evidence MakeError) (e found : Evidence) → judged ≡ judged_as e → e ≡ found → judged ≡ judged_as found
 ok_of judged e found is same = is ∙ ap judged_as same
 
-pub leads_of : (family : Family) (leave : Leave) (judged : Result Evidence Unready) (found : Conviction) → judged ≡ judged_as (Convicting found)
+pub leads_of : (family : Family) (leave : Leave) (judged : Result Evidence MakeError) (found : Conviction) → judged ≡ judged_as (Convicting found)
     → (o : Option Calls) → IfSome o (MayBeAside family leave) → IfSome o (IsOf (words found.call)) → IfSome o (Leads family leave judged)
 leads_of family leave judged found is None may is_of = tt
 leads_of family leave judged found is (Some calls) may is_of = record { may = may; found = found; is = is; is_of = is_of }
@@ -134,20 +134,20 @@ module _ (native : Arch) (bundle filter rest : List ℕ) (answered : List Calls)
   of_behind false found (inr is) = absurd is.1
 
   -- a record that was found convicts the filter
-  pub convicted : (aside : List Calls) (whole : Bool) (judged : Result Evidence Unready)
+  pub convicted : (aside : List Calls) (whole : Bool) (judged : Result Evidence MakeError)
       → IsJudged native bundle filter rest answered leave aside whole judged
       → (found : Conviction) → judged ≡ judged_as (Convicting found) → Convicts native bundle filter found
   convicted [] whole judged is found e =
       of_behind whole found
-      (subst (λ (j : Result Evidence Unready). IsJudgedBehind native bundle filter rest answered whole j) e (is.all refl))
+      (subst (λ (j : Result Evidence MakeError). IsJudgedBehind native bundle filter rest answered whole j) e (is.all refl))
   convicted (c ∷ more) whole judged is found e =
       let but : IsJudgedBut native bundle filter (stub_calls whole answered) (c ∷ more) (Ok (Convicting found)) =
-      subst (λ (j : Result Evidence Unready). IsJudgedBut native bundle filter (stub_calls whole answered) (c ∷ more) j) e
+      subst (λ (j : Result Evidence MakeError). IsJudgedBut native bundle filter (stub_calls whole answered) (c ∷ more) j) e
       (is.but (not_empty c more)) in
       but.convicts
 
   -- the calls that it leads to are left aside with reason, and the filter is judged beside a profile
-  pub left_out : (aside : List Calls) (whole : Bool) (judged : Result Evidence Unready)
+  pub left_out : (aside : List Calls) (whole : Bool) (judged : Result Evidence MakeError)
       → IsJudged native bundle filter rest answered leave aside whole judged
       → (calls : Calls) → Leads (family_of native) leave judged calls → IsLeftOut native bundle filter leave calls
   left_out aside whole judged is calls leads = record {
@@ -157,7 +157,7 @@ module _ (native : Arch) (bundle filter rest : List ℕ) (answered : List Calls)
     is_of = leads.is_of;
   }
 
-  pub taken_of : (aside : List Calls) (whole : Bool) (judged : Result Evidence Unready)
+  pub taken_of : (aside : List Calls) (whole : Bool) (judged : Result Evidence MakeError)
       → IsJudged native bundle filter rest answered leave aside whole judged
       → (calls : Calls) → Leads (family_of native) leave judged calls → AreTaken native bundle filter
   taken_of aside whole judged is calls leads =

@@ -7,7 +7,7 @@ use Rattle.machines.specs.declared.arch.Family.{Family}
 use Rattle.machines.specs.Arch.{family_of}
 use Rattle.maker.specs.declared.evidence.evidence.Conviction.{Conviction}
 use Rattle.maker.specs.declared.evidence.evidence.Evidence.{Evidence}
-use Rattle.maker.specs.declared.unready.Unready.{Unready}
+use Rattle.maker.specs.declared.make_error.MakeError.{MakeError}
 use Rattle.maker.specs.Exported.{LacksMemory}
 use Rattle.maker.specs.Told.{IsWritten, Tells}
 use Rattle.texts.specs.Failures.{Failures}
@@ -56,7 +56,7 @@ module _ {S : Type 0} (held : S → Option (List ℕ)) (failures : S → Failure
 
   module _ (bundle filter rest : List ℕ) (answered : List Calls) (leave : Leave) (behind : IsBehind filter rest answered) where
     -- what is judged is written
-    pub judged_told : (aside : List Calls) (whole : Bool) (judged : Result Evidence Unready)
+    pub judged_told : (aside : List Calls) (whole : Bool) (judged : Result Evidence MakeError)
         → IsJudged native bundle filter rest answered leave aside whole judged
         → (aside ≡ [] → (b f r : List ℕ) (a : List Calls) → IsBehind f r a → IsJudgedBehind native b f r a whole judged
         → WritesBehind held failures old new native b f r a whole result)
@@ -85,7 +85,7 @@ module _ {S : Type 0} (held : S → Option (List ℕ)) (failures : S → Failure
         })
 
     -- so are all records that were found
-    pub all_told : (aside : List Calls) (whole : Bool) (judged : Result Evidence Unready)
+    pub all_told : (aside : List Calls) (whole : Bool) (judged : Result Evidence MakeError)
         → IsJudged native bundle filter rest answered leave aside whole judged
         → (all : List Conviction) (empty : Bool) → empty ≡ (length all == 0) → empty ≡ false
         → (all ≡ []) ⊎ ((found : Conviction) × AreFoundBut native bundle filter (stub_calls whole answered) aside found all)

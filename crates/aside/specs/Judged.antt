@@ -10,8 +10,8 @@ use Rattle.certify.specs.declared.error.CertifyError.TheVariants as maker
 use Rattle.maker.specs.declared.evidence.evidence.Conviction.{Conviction}
 use Rattle.maker.specs.declared.evidence.evidence.Evidence.{Evidence}
 use Rattle.maker.specs.declared.evidence.evidence.Evidence.TheVariants.{Certificate, Convicting}
-use Rattle.maker.specs.declared.unready.Unready.{Unready}
-use Rattle.maker.specs.declared.unready.Unready.TheVariants.{Certify, OutOfMemory}
+use Rattle.maker.specs.declared.make_error.MakeError.{MakeError}
+use Rattle.maker.specs.declared.make_error.MakeError.TheVariants.{Certify, OutOfMemory}
 use Rattle.maker.specs.Certified.{AreJudged}
 use Rattle.maker.specs.Finding.{IsBundle}
 use Rattle.compare.specs.declared.behind_runc.stub.calls.Calls.{Calls}
@@ -45,7 +45,7 @@ pub record ConvictsBut (native : Arch) (bundle filter : List ℕ) (answered asid
   pub passed : IsAnswered answered (words found.call) → ⊥
 
 -- neither was found: the bundle means a profile, and the kernel accepts the filter
-abbrev pub IsOpenBut : Arch → List ℕ → List ℕ → Unready → Type 0
+abbrev pub IsOpenBut : Arch → List ℕ → List ℕ → MakeError → Type 0
 IsOpenBut native bundle filter (Certify e) = (e ≢ maker.OutOfMemory) × ((policy : Policy) × AreJudged native bundle filter policy)
 IsOpenBut native bundle filter other = ⊥
 
@@ -54,14 +54,14 @@ abbrev pub stub_calls : Bool → List Calls → List Calls
 stub_calls whole answered = if whole then [] else answered
 
 -- what is judged where these calls are left aside
-abbrev pub IsJudgedBut : Arch → List ℕ → List ℕ → List Calls → List Calls → Result Evidence Unready → Type 0
+abbrev pub IsJudgedBut : Arch → List ℕ → List ℕ → List Calls → List Calls → Result Evidence MakeError → Type 0
 IsJudgedBut native bundle filter answered aside (Ok (Certificate bytes)) = MeansRightBut native bundle filter answered aside
 IsJudgedBut native bundle filter answered aside (Ok (Convicting found)) = ConvictsBut native bundle filter answered aside found
 IsJudgedBut native bundle filter answered aside (Err e) = e ≢ OutOfMemory → IsOpenBut native bundle filter e
 
 -- What is judged, and of which calls it is not. If none is left aside, it is what is judged without such words.
 pub record IsJudged (native : Arch) (bundle filter rest : List ℕ) (answered : List Calls) (leave : Leave) (aside : List Calls)
-    (whole : Bool) (judged : Result Evidence Unready) : Type 0 where
+    (whole : Bool) (judged : Result Evidence MakeError) : Type 0 where
   pub left : AreLeftOut native bundle filter leave aside
   pub all : aside ≡ [] → IsJudgedBehind native bundle filter rest answered whole judged
   pub but : aside ≢ [] → IsJudgedBut native bundle filter (stub_calls whole answered) aside judged

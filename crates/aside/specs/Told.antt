@@ -6,7 +6,7 @@ use Rattle.machines.specs.declared.arch.Family.{Family}
 use Rattle.machines.specs.Arch.{family_of}
 use Rattle.call_record.specs.Record.{words}
 use Rattle.maker.specs.declared.evidence.evidence.Conviction.{Conviction}
-use Rattle.maker.specs.declared.unready.Unready.{Unready}
+use Rattle.maker.specs.declared.make_error.MakeError.{MakeError}
 use Rattle.maker.specs.Exported.{LacksMemory, line_of}
 use Rattle.maker.specs.Told.{IsLine}
 use Rattle.texts.specs.Failures.{Failures}
@@ -43,9 +43,9 @@ pub record WritesConvictionBut {S : Type 0} (held : S → Option (List ℕ)) (fa
 -- the line that says why there is neither; the answer is false
 pub record WritesOpenBut {S : Type 0} (held : S → Option (List ℕ)) (failures : S → Failures) (old new : S) (native : Arch)
     (bundle filter : List ℕ) (result : Result Bool WriteFault) : Type 0 where
-  pub unready : Unready
-  pub is : IsOpenBut native bundle filter unready
-  pub written : WritesMade held failures old new (line_of unready) result
+  pub make_error : MakeError
+  pub is : IsOpenBut native bundle filter make_error
+  pub written : WritesMade held failures old new (line_of make_error) result
   pub told : IfOk result (λ done. done ≡ false)
 
 -- what is written where these calls are left aside

@@ -20,7 +20,7 @@ use call_record::words_are_a_record;
 use certify::CertifyError;
 use compare::{Behind, Calls, Judged, is_answered, judge_behind, spares};
 use machines::Family;
-use maker::{Conviction, Evidence, Unready, judge_filter};
+use maker::{Conviction, Evidence, MakeError, judge_filter};
 use profile::Profile;
 use profile_json::Document;
 use rule_compile::compile;
@@ -38,14 +38,14 @@ pub struct But {
 
 // A filter is the same as another on all records but those of these calls. So a record that convicts it convicts the other, unless it is of
 // one of them.
-fn of_found(aside: &[Calls], found: &Conviction) -> Result<Evidence, Unready>
+fn of_found(aside: &[Calls], found: &Conviction) -> Result<Evidence, MakeError>
     ensures { (native : TheArch) (bundle same filter : List ℕ) → AreTaken native bundle filter
         → IsSameBut aside.now (insns_of same) (insns_of filter) → Convicts native bundle same found.now
         → IsJudgedBut native bundle filter [] aside.now result }
 {
     words_are_a_record(&found.call);
     if is_answered(aside, &found.call) {
-        return Err(Unready::Certify(CertifyError::Undecided(0)));
+        return Err(MakeError::Certify(CertifyError::Undecided(0)));
     }
     Ok(Evidence::Convicting(*found))
 }
@@ -55,8 +55,8 @@ fn of_found(aside: &[Calls], found: &Conviction) -> Result<Evidence, Unready>
 fn of_same(
     aside: &[Calls],
     front: u32,
-    judged: Result<Evidence, Unready>,
-) -> Result<Evidence, Unready>
+    judged: Result<Evidence, MakeError>,
+) -> Result<Evidence, MakeError>
     ensures { (native : TheArch) (bundle same filter : List ℕ) → AreTaken native bundle filter
         → IsSameBut aside.now (insns_of same) (insns_of filter) → IsJudgement native bundle same judged
         → IsJudgedBut native bundle filter [] aside.now result }
@@ -64,7 +64,7 @@ fn of_same(
     match judged {
         Ok(Evidence::Certificate(bytes)) => Ok(Evidence::Certificate(bytes)),
         Ok(Evidence::Convicting(found)) => of_found(aside, &found),
-        Err(unready) => Err(undecided(&unready, front)),
+        Err(make_error) => Err(undecided(&make_error, front)),
     }
 }
 
@@ -80,7 +80,7 @@ fn judge_aside(
     profile: &Profile,
     filter: &[u8],
     aside: &[Calls],
-) -> Result<Evidence, Unready>
+) -> Result<Evidence, MakeError>
     ensures { (native : TheArch) (bundle : List ℕ) → IsBundle native bundle profile.now → AreTaken native bundle filter.now
         → IsJudgedBut native bundle filter.now [] aside.now result }
 {
@@ -90,7 +90,7 @@ fn judge_aside(
     };
     let same = match giving(alloc, aside, &own, filter) {
         Ok(same) => same,
-        Err(_no_memory) => return Err(Unready::OutOfMemory),
+        Err(_no_memory) => return Err(MakeError::OutOfMemory),
     };
     let judged = judge_filter(alloc, profile, &same);
     of_same(aside, more_insns(&same, filter), judged)
@@ -155,7 +155,7 @@ fn judge_left(
         Ok(read) => judge_beside(alloc, &read.profile, filter, behind, aside),
         Err(error) => Ok(Judged {
             whole: true,
-            evidence: Err(undecided(&Unready::from(error), 0)),
+            evidence: Err(undecided(&MakeError::from(error), 0)),
         }),
     }
 }

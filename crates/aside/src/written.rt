@@ -81,7 +81,7 @@ fn write_aside<S: Sink>(
         → Tells S.held S.failures sink.old sink.new (words found.call) found.given found.said result }
 {
     match &but.judged.evidence {
-        Err(unready) => refuse(alloc, unready, sink),
+        Err(make_error) => refuse(alloc, make_error, sink),
         Ok(evidence) => write_evidence(alloc, family, but, evidence, sink),
     }
 }

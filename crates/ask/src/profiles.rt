@@ -122,7 +122,7 @@ fn certified(out: &mut Answers, profile: &Profile, filter: &[u8]) -> Vec<u8> {
             return bytes;
         }
         Ok(Evidence::Convicting(_found)) => out.tell("wrong"),
-        Err(unready) => out.tell(unready),
+        Err(make_error) => out.tell(make_error),
     }
     Vec::new(out.alloc)
 }

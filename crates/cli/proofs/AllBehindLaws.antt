@@ -10,19 +10,19 @@ use Rattle.maker.specs.declared.evidence.evidence.Conviction.{Conviction}
 use Rattle.maker.specs.declared.evidence.evidence.Evidence.{Evidence}
 use Rattle.maker.specs.declared.evidence.evidence.Evidence.TheVariants.{Certificate, Convicting}
 use Rattle.maker.specs.Exported.{LacksMemory}
-use Rattle.maker.specs.declared.unready.Unready.{Unready}
+use Rattle.maker.specs.declared.make_error.MakeError.{MakeError}
 use Rattle.texts.specs.Failures.{Failures}
 use Rattle.texts.specs.declared.streams.fault.WriteFault.{WriteFault}
 use Rattle.cli.specs.Explained.{AreFoundOf, MayTellEach, MayTellWhy, WritesFound}
 
 -- the records of the evidence
-pub found_of : (native : Arch) (bundle filter : List ℕ) (answered : List Calls) (whole : Bool) (judged : Result Evidence Unready)
+pub found_of : (native : Arch) (bundle filter : List ℕ) (answered : List Calls) (whole : Bool) (judged : Result Evidence MakeError)
     (all : List Conviction) → (IsNoConviction judged → all ≡ [])
     → ((found : Conviction) → judged ≡ Ok (Convicting found) → AreFoundBehind native bundle filter answered whole found all)
     → AreFoundOf native bundle filter answered whole judged all
 found_of native bundle filter answered whole (Ok (Certificate cert)) all none found = none tt
 found_of native bundle filter answered whole (Ok (Convicting one)) all none found = found one refl
-found_of native bundle filter answered whole (Err unready) all none found = none tt
+found_of native bundle filter answered whole (Err make_error) all none found = none tt
 
 -- nothing is told of any
 pub none_told : {E : Type 0} (shown : E → Option (List ℕ)) (dropped : E → Failures) (native : Arch) (bundle : List ℕ)
@@ -49,7 +49,7 @@ each_told shown dropped native bundle all more found err between err' is why res
 module _ {O : Type 0} (held : O → Option (List ℕ)) (failures : O → Failures) (out out' : O) (native : Arch)
     (bundle filter rest : List ℕ) (answered : List Calls) (whole : Bool) (all : List Conviction) (result : Result Bool WriteFault) where
   -- what is written of the evidence
-  pub written_of : (judged : Result Evidence Unready)
+  pub written_of : (judged : Result Evidence MakeError)
       → ((one : Conviction) → judged ≡ Ok (Convicting one)
       → WritesLines held failures out out' all result ⊎ LacksMemory out out' result)
       → (IsNoConviction judged → WritesBehind held failures out out' native bundle filter rest answered whole result)
@@ -60,7 +60,7 @@ module _ {O : Type 0} (held : O → Option (List ℕ)) (failures : O → Failure
     | inl lines ↦ inl (inr (one, are, lines))
     | inr lacks ↦ inr lacks
   ]
-  written_of (Err unready) found none are = inl (inl (are, none tt))
+  written_of (Err make_error) found none are = inl (inl (are, none tt))
 
   pub certifies : WritesFound held failures out out' native bundle filter rest answered whole all result
       → WritesBehind held failures out out' native bundle filter rest answered whole result

@@ -7,7 +7,7 @@ use Rattle.maker.specs.declared.evidence.evidence.Conviction.{Conviction}
 use Rattle.maker.specs.declared.evidence.evidence.Evidence.{Evidence}
 use Rattle.maker.specs.declared.evidence.evidence.Evidence.TheVariants.{Certificate, Convicting}
 use Rattle.maker.specs.Told.{Tells}
-use Rattle.maker.specs.declared.unready.Unready.{Unready}
+use Rattle.maker.specs.declared.make_error.MakeError.{MakeError}
 use Rattle.texts.specs.Failures.{Failures}
 use Rattle.texts.specs.Sink.{WritesMade}
 use Rattle.texts.specs.declared.streams.fault.WriteFault.{WriteFault}
@@ -28,13 +28,13 @@ module _ {O E : Type 0} (held : O → Option (List ℕ)) (failures : O → Failu
         subst IsYes (subst (λ (r : Result Bool WriteFault). IfOk r (λ done. done ≡ false)) is line.told) tt
     not_done found (inr lacks) is = subst (λ (r : Result Bool WriteFault). IfErr r (λ e. ⊥)) (sym is ∙ lacks.0) tt
 
-    pub quiet_of : (judged : Result Evidence Unready)
+    pub quiet_of : (judged : Result Evidence MakeError)
         → ((found : Conviction) → judged ≡ Ok (Convicting found)
         → Tells held failures out out' (words found.call) found.given found.said result)
         → (HasNoRecord judged → err' ≡ err) → result ≡ Ok true → err' ≡ err
     quiet_of (Ok (Certificate cert)) told quiet is = quiet tt
     quiet_of (Ok (Convicting found)) told quiet is = absurd (not_done found (told found refl) is)
-    quiet_of (Err unready) told quiet is = quiet tt
+    quiet_of (Err make_error) told quiet is = quiet tt
 
     line_of : (found : Conviction) → MayTellWhy shown dropped err err' native bundle found.call → result ≡ Ok false
         → Tells held failures out out' (words found.call) found.given found.said result
@@ -51,7 +51,7 @@ module _ {O E : Type 0} (held : O → Option (List ℕ)) (failures : O → Failu
         })
     line_of found why is (inr lacks) = absurd (subst (λ (r : Result Bool WriteFault). IfErr r (λ e. ⊥)) (sym is ∙ lacks.0) tt)
 
-    pub told_of : (judged : Result Evidence Unready)
+    pub told_of : (judged : Result Evidence MakeError)
         → ((found : Conviction) → judged ≡ Ok (Convicting found)
         → Tells held failures out out' (words found.call) found.given found.said result)
         → ((found : Conviction) → judged ≡ Ok (Convicting found) → MayTellWhy shown dropped err err' native bundle found.call)
@@ -59,7 +59,7 @@ module _ {O E : Type 0} (held : O → Option (List ℕ)) (failures : O → Failu
         → (err' ≡ err) ⊎ TellsRecord held failures out out' shown dropped err err' native bundle
     told_of (Ok (Certificate cert)) told why quiet is = inl (quiet tt)
     told_of (Ok (Convicting found)) told why quiet is = line_of found (why found refl) is (told found refl)
-    told_of (Err unready) told why quiet is = inl (quiet tt)
+    told_of (Err make_error) told why quiet is = inl (quiet tt)
 
   -- of a certificate nothing is explained, and else the record that was told
   pub why_of : (done : Bool) (result : Result Bool WriteFault) → result ≡ Ok done → (result ≡ Ok true → err' ≡ err)

@@ -19,8 +19,8 @@ use Rattle.maker.specs.Certified.{Certifies, IsConvicted, IsOfFilter, IsOpen, Is
 use Rattle.maker.specs.Finding.{IsFinding, TellsFinding, WritesFinding}
 use Rattle.maker.specs.declared.check.Finding.{Finding}
 use Rattle.maker.specs.declared.check.Finding.TheVariants.{Yes, No, NoProfile}
-use Rattle.maker.specs.declared.unready.Unready.{Unready}
-use Rattle.maker.specs.declared.unready.Unready.TheVariants.{Profile, Compile, Certify, Check, OutOfMemory}
+use Rattle.maker.specs.declared.make_error.MakeError.{MakeError}
+use Rattle.maker.specs.declared.make_error.MakeError.TheVariants.{Profile, Compile, Certify, Check, OutOfMemory}
 use Rattle.maker.specs.declared.verdict.Answer.{Answer}
 use Rattle.maker.specs.declared.verdict.Answer.TheVariants.{Verdict, NoRecord, NoProgram, Refusal}
 use Rattle.show.specs.Shown.{IsShown}
@@ -83,7 +83,7 @@ module _ (native : Arch) (bundle filter f : List ℕ) (enough : IsEnough 32768 f
     not_memory : (e : CheckError) → IsOfFilter e → e ≢ error.OutOfMemory
     not_memory e of same = subst IsOfFilter same of
 
-    open_of_file : (u : Unready) → IsOpen native bundle f u → IsOpen native bundle filter u
+    open_of_file : (u : MakeError) → IsOpen native bundle f u → IsOpen native bundle filter u
     open_of_file (Profile e) h = h
     open_of_file (Compile e) h = absurd h
     open_of_file (Certify e) h =
@@ -103,8 +103,8 @@ module _ (native : Arch) (bundle filter f : List ℕ) (enough : IsEnough 32768 f
       told = h.told;
     }))
     certified_of_file result (inr (inr (inl h))) = inr (inr (inl (record {
-      unready = h.unready;
-      is = open_of_file h.unready h.is;
+      make_error = h.make_error;
+      is = open_of_file h.make_error h.is;
       written = h.written;
       told = h.told;
     })))

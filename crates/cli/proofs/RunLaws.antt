@@ -11,13 +11,13 @@ use Rattle.session.specs.declared.bundles.Bundles.{Bundles}
 use Rattle.session.specs.declared.fault.ScriptFault.{ScriptFault}
 use Rattle.session.specs.declared.fault.ScriptFault.TheVariants.{Read, Write, Memory}
 use Rattle.session.specs.Scripts.{IsAnswered, StopsForMemory, StopsReading, StopsWriting, TellsFailedRead, TellsFailedWrite}
-use Rattle.maker.specs.declared.unready.Unready.{Unready}
-use Rattle.maker.specs.declared.unready.Unready.TheVariants.{OutOfMemory}
+use Rattle.maker.specs.declared.make_error.MakeError.{MakeError}
+use Rattle.maker.specs.declared.make_error.MakeError.TheVariants.{OutOfMemory}
 use Rattle.cli.specs.declared.stops.Stop.{Stop}
 use Rattle.maker.proofs.PlainLaws.{not_refused}
 use Rattle.maker.specs.Exported.{Refuses}
 use Rattle.maker.specs.Plain.{IsPlainBundle}
-use Rattle.cli.specs.Running.{AnswersScript, AreBundlesOf, FirstUnready, HasAnswered, Runs, RunsBundles, RunsScript, told_line, told_script}
+use Rattle.cli.specs.Running.{AnswersScript, AreBundlesOf, FirstMakeError, HasAnswered, Runs, RunsBundles, RunsScript, told_line, told_script}
 
 module _ {I O : Type 0} (left : I → Option (List ℕ)) (given : I → Failures) (held : O → Option (List ℕ)) (taken : O → Failures)
     (source source' : I) (sink sink' : O) (native : Arch) (texts : List (List ℕ)) where
@@ -56,12 +56,12 @@ module _ {I O : Type 0} (left : I → Option (List ℕ)) (given : I → Failures
 module _ {I O : Type 0} (left : I → Option (List ℕ)) (given : I → Failures) (held : O → Option (List ℕ)) (taken : O → Failures)
     (source : I) (sink sink' : O) (native : Arch) (texts : List (List ℕ)) where
   -- a text is refused
-  pub refused_script : (u : Unready) (r : Result Bool WriteFault) (result : Result Bool Stop)
-      → (u ≢ OutOfMemory → FirstUnready native texts u)
+  pub refused_script : (u : MakeError) (r : Result Bool WriteFault) (result : Result Bool Stop)
+      → (u ≢ OutOfMemory → FirstMakeError native texts u)
       → Refuses held taken sink sink' u r → result ≡ told_line r
       → RunsBundles left given held taken source source sink sink' native texts result
   refused_script u r result why (inl h) told = inr (inl (record {
-    unready = u;
+    make_error = u;
     is = why h.0;
     unread = refl;
     outcome = r;
@@ -99,8 +99,8 @@ module _ {I O : Type 0} (left : I → Option (List ℕ)) (given : I → Failures
 -- ---- plain bundles
 
 -- there is no first of such texts without a checked filter
-none_is_refused : (native : Arch) (texts : List (List ℕ)) (u : Unready) → All (IsPlainBundle native) texts
-    → FirstUnready native texts u → ⊥
+none_is_refused : (native : Arch) (texts : List (List ℕ)) (u : MakeError) → All (IsPlainBundle native) texts
+    → FirstMakeError native texts u → ⊥
 none_is_refused native texts u all first =
     let parts : All (IsPlainBundle native) (first.before ++ first.text ∷ first.after) =
     subst (All (IsPlainBundle native)) first.split all in
@@ -115,5 +115,5 @@ pub script_is_run : {I O : Type 0} (left : I → Option (List ℕ)) (given : I �
     → RunsScript left given held taken source source' sink sink' native texts result
 script_is_run left given held taken source source' sink sink' native texts result (inl h) all = inl h
 script_is_run left given held taken source source' sink sink' native texts result (inr (inl h)) all =
-    absurd (none_is_refused native texts h.unready all h.is)
+    absurd (none_is_refused native texts h.make_error all h.is)
 script_is_run left given held taken source source' sink sink' native texts result (inr (inr h)) all = inr h

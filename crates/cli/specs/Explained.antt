@@ -13,7 +13,7 @@ use Rattle.maker.specs.declared.evidence.evidence.Evidence.{Evidence}
 use Rattle.maker.specs.declared.evidence.evidence.Evidence.TheVariants.{Convicting}
 use Rattle.explain.specs.Explanation.{Explains}
 use Rattle.maker.specs.Told.{IsLine}
-use Rattle.maker.specs.declared.unready.Unready.{Unready}
+use Rattle.maker.specs.declared.make_error.MakeError.{MakeError}
 use Rattle.compare.specs.declared.behind_runc.stub.calls.Calls.{Calls}
 use Rattle.texts.specs.Failures.{Failures}
 use Rattle.texts.specs.Sink.{Writes, Wrote}
@@ -36,9 +36,9 @@ abbrev pub MayTellWhy : {E : Type 0} → (E → Option (List ℕ)) → (E → Fa
 MayTellWhy shown dropped err err' native bundle call = (err' ≡ err) ⊎ WritesWhy shown dropped err err' native bundle call
 
 -- no record was found: a certificate, or the reason why there is neither
-abbrev pub HasNoRecord : Result Evidence Unready → Type 0
+abbrev pub HasNoRecord : Result Evidence MakeError → Type 0
 HasNoRecord (Ok evidence) = IsCertificate evidence
-HasNoRecord (Err unready) = ⊤
+HasNoRecord (Err make_error) = ⊤
 
 -- the line of a record was written, and on standard error an explanation of this very record, or nothing
 pub record TellsRecord {O E : Type 0} (held : O → Option (List ℕ)) (failures : O → Failures) (out out' : O)
@@ -79,7 +79,7 @@ MayTellEach shown dropped native bundle (found ∷ more) err err' =
     × MayTellEach shown dropped native bundle more between err'
 
 -- these are the records that were found: none, or the one of the evidence and further ones
-abbrev pub AreFoundOf : Arch → List ℕ → List ℕ → List Calls → Bool → Result Evidence Unready → List Conviction → Type 0
+abbrev pub AreFoundOf : Arch → List ℕ → List ℕ → List Calls → Bool → Result Evidence MakeError → List Conviction → Type 0
 AreFoundOf native bundle filter answered whole (Ok (Convicting found)) all = AreFoundBehind native bundle filter answered whole found all
 AreFoundOf native bundle filter answered whole other all = all ≡ []
 

@@ -12,10 +12,10 @@ use Rattle.session.specs.declared.bundles.Bundles.{Bundles}
 use Rattle.session.specs.declared.fault.ScriptFault.{ScriptFault}
 use Rattle.session.specs.declared.fault.ScriptFault.TheVariants.{Read, Write, Memory}
 use Rattle.session.specs.Scripts.{IsAnswered, StopsForMemory, StopsReading, StopsWriting, TellsFailedRead, TellsFailedWrite}
-use Rattle.maker.specs.declared.unready.Unready.{Unready}
+use Rattle.maker.specs.declared.make_error.MakeError.{MakeError}
 use Rattle.cli.specs.declared.stops.Stop.{Stop}
 use Rattle.cli.specs.declared.stops.Stop.TheVariants as stop
-use Rattle.maker.specs.Exported.{IsCheckedOf, IsUnready, line_of}
+use Rattle.maker.specs.Exported.{IsCheckedOf, IsMakeError, line_of}
 use Rattle.cli.specs.Stop.{stop_at_fault, stop_at_script}
 
 -- each of one list stands beside that of another at its place, both numbered from i on
@@ -42,13 +42,13 @@ abbrev pub HasChecked : Arch → List ℕ → Type 0
 HasChecked native text = (c : Checked) × IsCheckedOf native text c
 
 -- why the first text without a checked filter has none
-pub record FirstUnready (native : Arch) (texts : List (List ℕ)) (unready : Unready) : Type 0 where
+pub record FirstMakeError (native : Arch) (texts : List (List ℕ)) (make_error : MakeError) : Type 0 where
   pub before : List (List ℕ)
   pub text : List ℕ
   pub after : List (List ℕ)
   pub split : texts ≡ before ++ text ∷ after
   pub ready : All (HasChecked native) before
-  pub is : IsUnready native text unready
+  pub is : IsMakeError native text make_error
 
 -- what was read and written of a script, by what is told of it
 abbrev pub Runs : {I O T : Type 0} → (I → Option (List ℕ)) → (O → Option (List ℕ)) → I → I → O → O → Bundles → Result T ScriptFault → Type 0
@@ -85,11 +85,11 @@ pub record AnswersScript {I O : Type 0} (left : I → Option (List ℕ)) (given 
 -- nothing was read, and what was written is the line of the first text that has no checked filter
 pub record RefusesScript {I O : Type 0} (held : O → Option (List ℕ)) (taken : O → Failures)
     (source source' : I) (sink sink' : O) (native : Arch) (texts : List (List ℕ)) (result : Result Bool Stop) : Type 0 where
-  pub unready : Unready
-  pub is : FirstUnready native texts unready
+  pub make_error : MakeError
+  pub is : FirstMakeError native texts make_error
   pub unread : source' ≡ source
   pub outcome : Result Bool WriteFault
-  pub written : WritesMade held taken sink sink' (line_of unready) outcome
+  pub written : WritesMade held taken sink sink' (line_of make_error) outcome
   pub answer : IfOk outcome (λ done. done ≡ false)
   pub told : result ≡ told_line outcome
 

@@ -7,7 +7,7 @@ ghost use Rattle.maker.specs.evidence.Conviction.{IsCertificate};
 ghost use Rattle.maker.specs.Certified.{Certifies};
 
 use compare::explain_found;
-use maker::{Conviction, Evidence, Unready, judge_bundle, write_judged};
+use maker::{Conviction, Evidence, MakeError, judge_bundle, write_judged};
 use profile_json::Document;
 use std::alloc::Global;
 use texts::{Sink, WriteFault, write_all};
@@ -45,7 +45,7 @@ fn tell_evidence<E: Sink>(alloc: Global, document: &Document, evidence: &Evidenc
 pub(crate) fn tell_found<E: Sink>(
     alloc: Global,
     document: &Document,
-    judged: &Result<Evidence, Unready>,
+    judged: &Result<Evidence, MakeError>,
     err: &mut E,
 )
     ensures why { (found : TheConviction) → judged.now ≡ Ok (Convicting found)

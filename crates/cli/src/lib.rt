@@ -43,8 +43,8 @@ pub use fault::FileFault;
 pub use files::Files;
 pub use law::headline;
 pub use maker::{
-    Answer, Finding, Slot, Unready, answer_to, certify_bundle, check_line, evidence_excludes,
-    export_bundle, finding_of, findings_exclude, one_answer, verdict_line,
+    Answer, CheckedBundle, Finding, MakeError, answer_to, certify_bundle, check_line,
+    evidence_excludes, export_bundle, finding_of, findings_exclude, one_answer, verdict_line,
 };
 pub use parts::{Form, machines_are_called};
 pub use program::dispatch;

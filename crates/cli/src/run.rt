@@ -1,13 +1,13 @@
 //! From bundles to their checked filters, with which a script is run: what `ccell run` does.
 ghost use Rattle.std.specs.Prelude.{◌≡◌, ◌≢◌, ◌+◌, ◌-◌, ◌<◌, ◌^◌, ℕ, List, All, IfErr, IfOk, Ok, length, map, true, vec_len};
-ghost use Rattle.maker.specs.declared.unready.Unready.TheVariants.{OutOfMemory};
-ghost use Rattle.maker.specs.Exported.{IsUnready};
+ghost use Rattle.maker.specs.declared.make_error.MakeError.TheVariants.{OutOfMemory};
+ghost use Rattle.maker.specs.Exported.{IsMakeError};
 ghost use Rattle.maker.specs.Plain.{IsPlainBundle};
-ghost use Rattle.cli.specs.Running.{AnswersScript, FirstUnready, HasAnswered, InTurn, IsBundleOf, RunsBundles, RunsScript};
+ghost use Rattle.cli.specs.Running.{AnswersScript, FirstMakeError, HasAnswered, InTurn, IsBundleOf, RunsBundles, RunsScript};
 
 use crate::stops::Stop;
 use machines::Arch;
-use maker::{Slot, Unready, refuse};
+use maker::{CheckedBundle, MakeError, refuse};
 use session::{Bundle, Bundles, run_script};
 use std::alloc::{AllocError, Global};
 use texts::{Sink, Source};
@@ -16,7 +16,7 @@ use texts::{Sink, Source};
 #[derive(Drop)]
 struct Named {
     name: Option<String>,
-    slot: Slot,
+    checked_bundle: CheckedBundle,
 }
 
 // Room for so many bundles.
@@ -27,7 +27,7 @@ fn rooms_of(alloc: Global, count: usize) -> Result<Vec<Named>, AllocError>
     for _ in 0..count {
         rooms.push(Named {
             name: None,
-            slot: Slot::new(),
+            checked_bundle: CheckedBundle::new(),
         })?;
     }
     Ok(rooms)
@@ -40,20 +40,23 @@ fn bundle_of<'a>(
     place: usize,
     text: &[u8],
     room: &'a mut Named,
-) -> Result<Bundle<'a>, Unready>
+) -> Result<Bundle<'a>, MakeError>
     requires { place < 2 ^ 64 - 1 }
     ensures ok { IfOk result (IsBundleOf native (place + 1) text.now) }
-    ensures err { IfErr result (λ unready. unready ≢ OutOfMemory → IsUnready native text.now unready) }
+    ensures err { IfErr result (λ make_error. make_error ≢ OutOfMemory → IsMakeError native text.now make_error) }
 {
     let Ok(own) = format!(in alloc; "b{}", place + 1) else {
-        return Err(Unready::OutOfMemory);
+        return Err(MakeError::OutOfMemory);
     };
-    let Named { name, slot } = room;
+    let Named {
+        name,
+        checked_bundle,
+    } = room;
     let name: &'a String = name.insert(own);
     let name = name.as_str();
-    match slot.fill(alloc, native, text) {
+    match checked_bundle.fill(alloc, native, text) {
         Ok(checked) => Ok(Bundle { name, checked }),
-        Err(unready) => Err(unready),
+        Err(make_error) => Err(make_error),
     }
 }
 
@@ -63,20 +66,20 @@ fn bundles_of<'a>(
     native: Arch,
     texts: &[Vec<u8>],
     rooms: &'a mut [Named],
-) -> Result<Vec<Bundle<'a>>, Unready>
+) -> Result<Vec<Bundle<'a>>, MakeError>
     requires { length rooms.old ≡ length texts.now }
     ensures ok { IfOk result (λ list. InTurn (IsBundleOf native) 1 (map (λ t. t.items) texts.now) list.items) }
-    ensures err { IfErr result (λ unready. unready ≢ OutOfMemory → FirstUnready native (map (λ t. t.items) texts.now) unready) }
+    ensures err { IfErr result (λ make_error. make_error ≢ OutOfMemory → FirstMakeError native (map (λ t. t.items) texts.now) make_error) }
 {
     let mut list = Vec::new(alloc);
     for (place, room) in rooms.iter_mut().enumerate() {
         match bundle_of(alloc, native, place, &texts[place], room) {
             Ok(bundle) => {
                 if list.push(bundle).is_err() {
-                    return Err(Unready::OutOfMemory);
+                    return Err(MakeError::OutOfMemory);
                 }
             }
-            Err(unready) => return Err(unready),
+            Err(make_error) => return Err(make_error),
         }
     }
     Ok(list)
@@ -121,6 +124,6 @@ pub fn run_bundles<'a, I: Source, O: Sink>(
     let mut rooms = rooms_of(alloc, texts.len())?;
     match bundles_of(alloc, native, texts, &mut rooms) {
         Ok(list) => run_checked(alloc, native, &list, input, out),
-        Err(unready) => Ok(refuse(alloc, &unready, out)?),
+        Err(make_error) => Ok(refuse(alloc, &make_error, out)?),
     }
 }

@@ -13,7 +13,7 @@ use Rattle.maker.specs.declared.evidence.evidence.Evidence.TheVariants.{Certific
 use Rattle.maker.specs.Certified.{Certifies, CertifiesOwn, IsEvidenceFor, IsJudgement, IsOwnJudgement, WritesConviction}
 use Rattle.maker.specs.Exported.{LacksMemory, Refuses}
 use Rattle.maker.specs.Told.{Tells}
-use Rattle.maker.specs.declared.unready.Unready.{Unready}
+use Rattle.maker.specs.declared.make_error.MakeError.{MakeError}
 use Rattle.maker.specs.Finding.{IsBundle}
 use Rattle.profile.specs.Policy.{Policy}
 use Rattle.profile_json.proofs.unbroken.Unbroken.{meaning_is_one}
@@ -30,7 +30,7 @@ use Rattle.compare.specs.Stub.{IsOf}
 use Rattle.compare.proofs.RightLaws.{spared_is_right}
 
 -- what is judged where there is evidence
-abbrev judged_as : Evidence → Result Evidence Unready
+abbrev judged_as : Evidence → Result Evidence MakeError
 judged_as evidence = Ok evidence
 
 -- a bundle means one profile
@@ -90,15 +90,15 @@ module _ {S : Type 0} (held : S → Option (List ℕ)) (failures : S → Failure
   conviction_told found is (inr lacks) = inr (inr (inr lacks))
 
   -- of the reason why there is neither
-  module _ (unready : Unready) where
-    pub of_error : (whole : Bool) → IsJudgedBehind native bundle filter rest answered whole (Err unready)
-        → Refuses held failures old new unready result → WritesBehind held failures old new native bundle filter rest answered whole result
+  module _ (make_error : MakeError) where
+    pub of_error : (whole : Bool) → IsJudgedBehind native bundle filter rest answered whole (Err make_error)
+        → Refuses held failures old new make_error result → WritesBehind held failures old new native bundle filter rest answered whole result
     of_error true is (inl refused) =
-        inr (inr (inl (record { unready = unready; is = is refused.0; written = refused.1; told = refused.2 })))
+        inr (inr (inl (record { make_error = make_error; is = is refused.0; written = refused.1; told = refused.2 })))
     of_error true is (inr lacks) = inr (inr (inr lacks))
     of_error false (inl found) refused = absurd found.1
     of_error false (inr behind) (inl refused) =
-        inr (inr (inl (record { unready = unready; is = behind.0 refused.0; written = refused.1; told = refused.2 }, behind.2)))
+        inr (inr (inl (record { make_error = make_error; is = behind.0 refused.0; written = refused.1; told = refused.2 }, behind.2)))
     of_error false (inr behind) (inr lacks) = inr (inr (inr lacks))
 
   -- of the evidence
@@ -124,7 +124,7 @@ module _ {S : Type 0} (held : S → Option (List ℕ)) (failures : S → Failure
         certified (own native bundle rest is.0 tt) (means_right native bundle filter rest answered behind is.2 (Certificate cert) is.0 tt)
 
     -- the same of what is judged, which is this evidence
-    abbrev FromJudged : Bool → Result Evidence Unready → Type 0
+    abbrev FromJudged : Bool → Result Evidence MakeError → Type 0
     FromJudged whole judged =
         ((n : Arch) (b f : List ℕ) → IsJudgement n b f judged → Certifies held failures old new n b f result)
         → ((n : Arch) (b f : List ℕ) → IsJudgement n b f judged → IsOwnJudgement judged
@@ -134,6 +134,6 @@ module _ {S : Type 0} (held : S → Option (List ℕ)) (failures : S → Failure
         → IsJudgedBehind native bundle filter rest answered whole judged
         → WritesBehind held failures old new native bundle filter rest answered whole result
 
-    pub of_judged : (whole : Bool) (judged : Result Evidence Unready) (evidence : Evidence) → judged ≡ Ok evidence
+    pub of_judged : (whole : Bool) (judged : Result Evidence MakeError) (evidence : Evidence) → judged ≡ Ok evidence
         → FromJudged whole judged
     of_judged whole judged evidence same = subst (FromJudged whole) (sym same) (of_evidence whole evidence)

@@ -11,7 +11,7 @@ use Rattle.maker.specs.declared.evidence.evidence.Evidence.{Evidence}
 use Rattle.maker.specs.Certified.{Certifies, IsJudgement, WritesCertificate, WritesConviction, WritesOpen}
 use Rattle.maker.specs.Exported.{LacksMemory}
 use Rattle.maker.specs.Finding.{IsBundle}
-use Rattle.maker.specs.declared.unready.Unready.{Unready}
+use Rattle.maker.specs.declared.make_error.MakeError.{MakeError}
 use Rattle.texts.specs.Failures.{Failures}
 use Rattle.texts.specs.declared.streams.fault.WriteFault.{WriteFault}
 use Rattle.profile.specs.Policy.{Policy}
@@ -37,12 +37,12 @@ abbrev pub IsBehind : List ℕ → List ℕ → List Calls → Type 0
 IsBehind filter rest answered = HasStub filter rest answered ⊎ ((rest ≡ filter) × (answered ≡ []))
 
 -- it is a record that convicts
-abbrev pub IsFound : Result Evidence Unready → Type 0
+abbrev pub IsFound : Result Evidence MakeError → Type 0
 IsFound (Ok evidence) = IsCertificate evidence → ⊥
 IsFound (Err e) = ⊥
 
 -- it is none
-abbrev pub IsNoConviction : Result Evidence Unready → Type 0
+abbrev pub IsNoConviction : Result Evidence MakeError → Type 0
 IsNoConviction (Ok evidence) = IsCertificate evidence
 IsNoConviction (Err e) = ⊤
 
@@ -57,7 +57,7 @@ MeansRight native bundle filter answered =
 
 -- What is judged, and whether it is asked of the whole filter. If the rest is asked about, it is a counterexample to the whole filter. Or
 -- it is judged of the rest and is no counterexample, and then the bundle spares the calls that the stub answers.
-abbrev pub IsJudgedBehind : Arch → List ℕ → List ℕ → List ℕ → List Calls → Bool → Result Evidence Unready → Type 0
+abbrev pub IsJudgedBehind : Arch → List ℕ → List ℕ → List ℕ → List Calls → Bool → Result Evidence MakeError → Type 0
 IsJudgedBehind native bundle filter rest answered true judged = IsJudgement native bundle filter judged
 IsJudgedBehind native bundle filter rest answered false judged =
     (IsJudgement native bundle filter judged × IsFound judged)

@@ -26,7 +26,7 @@ module _ {S : Type 0} (held : S → Option (List ℕ)) (failures : S → Failure
 
   refused : Exports held failures old new native bundle Raw (Ok false) → held old ≡ Some [] → held new ≡ Some items → IsRefusalOf native bundle items
   refused (inl w) before after = absurd (let e : false ≡ true = w.told in cc)
-  refused (inr (inl u)) before after = record { unready = u.unready; is = u.is; written = appended _ before after u.written.0 }
+  refused (inr (inl u)) before after = record { make_error = u.make_error; is = u.is; written = appended _ before after u.written.0 }
   refused (inr (inr h)) before after = absurd (let e = h.0 in cc)
 
   pub is_filter : (result : Result Bool WriteFault) → Exports held failures old new native bundle Raw result → result ≡ Ok true
@@ -81,7 +81,7 @@ module _ {S : Type 0} (held : S → Option (List ℕ)) (failures : S → Failure
   no_certificate (inr (inl u)) before after =
       inl (record { rec = u.rec; given = u.given; said = u.said; is = u.is; written = appended _ before after u.written.0 })
   no_certificate (inr (inr (inl u))) before after =
-      inr (record { unready = u.unready; is = u.is; written = appended _ before after u.written.0 })
+      inr (record { make_error = u.make_error; is = u.is; written = appended _ before after u.written.0 })
   no_certificate (inr (inr (inr h))) before after = absurd (let e = h.0 in cc)
 
   pub is_certificate : (result : Result Bool WriteFault) → Certifies held failures old new native bundle filter result → result ≡ Ok true

@@ -5,12 +5,12 @@ use Rattle.cert_check.specs.declared.checked.Checked.{Checked}
 use Rattle.export.specs.Forms.{bytes_in}
 use Rattle.export.specs.declared.form.Form.TheVariants.{Raw}
 use Rattle.maker.specs.Certified.{IsConvicted, IsOpen, conviction_line}
-use Rattle.maker.specs.Exported.{IsCheckedOf, IsUnready, line_of}
+use Rattle.maker.specs.Exported.{IsCheckedOf, IsMakeError, line_of}
 use Rattle.maker.specs.Finding.{IsFinding, is_yes}
 use Rattle.maker.specs.Finding as finding
 use Rattle.maker.specs.declared.check.Finding.{Finding}
 use Rattle.maker.specs.declared.check.Finding.TheVariants.{Yes}
-use Rattle.maker.specs.declared.unready.Unready.{Unready}
+use Rattle.maker.specs.declared.make_error.MakeError.{MakeError}
 
 -- the bytes are those of a filter that the checker said yes to, for this bundle
 pub record IsFilterOf (native : Arch) (bundle bytes : List ℕ) : Type 0 where
@@ -20,9 +20,9 @@ pub record IsFilterOf (native : Arch) (bundle bytes : List ℕ) : Type 0 where
 
 -- the bytes are the line that says why the bundle has no checked filter
 pub record IsRefusalOf (native : Arch) (bundle bytes : List ℕ) : Type 0 where
-  pub unready : Unready
-  pub is : IsUnready native bundle unready
-  pub written : bytes ≡ line_of unready
+  pub make_error : MakeError
+  pub is : IsMakeError native bundle make_error
+  pub written : bytes ≡ line_of make_error
 
 -- what is written of a bundle: the filter, or why it has none
 abbrev pub IsExportOf : Arch → List ℕ → List ℕ → Type 0
@@ -45,9 +45,9 @@ pub record IsConvictionOf (native : Arch) (bundle filter bytes : List ℕ) : Typ
 
 -- the bytes are the line that says why there is neither a certificate nor such a record
 pub record IsOpenOf (native : Arch) (bundle filter bytes : List ℕ) : Type 0 where
-  pub unready : Unready
-  pub is : IsOpen native bundle filter unready
-  pub written : bytes ≡ line_of unready
+  pub make_error : MakeError
+  pub is : IsOpen native bundle filter make_error
+  pub written : bytes ≡ line_of make_error
 
 -- the bytes are the line of a call record that convicts the filter, or that says why there is neither
 abbrev pub IsNoCertificateOf : Arch → List ℕ → List ℕ → List ℕ → Type 0

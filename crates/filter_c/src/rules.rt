@@ -15,7 +15,7 @@ use crate::status::{
     NO_RULE, OVERLAP, TOO_MANY, Told,
 };
 use cert_check::Checked;
-use maker::{Slot, Unready};
+use maker::{CheckedBundle, MakeError};
 use profile::Profile;
 use std::alloc::Global;
 
@@ -44,10 +44,10 @@ fn put_filter(alloc: Global, profile: Profile, out: &mut [u8], told: &mut Told) 
     ensures size { result ≡ 11 → IsPlain profile → ⊥ }
     ensures statuses { (result ≡ 0) ⊎ ((result ≡ 2) ⊎ ((result ≡ 3) ⊎ (result ≡ 11))) }
 {
-    let mut slot = Slot::new();
-    match slot.fill_for(alloc, profile) {
+    let mut checked_bundle = CheckedBundle::new();
+    match checked_bundle.fill_for(alloc, profile) {
         Ok(checked) => put_checked(&checked, out, told),
-        Err(Unready::OutOfMemory) => NO_MEMORY,
+        Err(MakeError::OutOfMemory) => NO_MEMORY,
         Err(_) => NO_FILTER,
     }
 }

@@ -42,8 +42,8 @@ use Rattle.maker.specs.Certified.{AreJudged, Certifies, CertifiesOwn, EvidenceEx
 use Rattle.maker.specs.Certified.{IsEvidenceFor, IsJudgement, IsOwnJudgement, conviction_line}
 use Rattle.maker.specs.Exported.{IsToldAs, Refuses}
 use Rattle.maker.specs.Finding.{IsBundle, IsYes}
-use Rattle.maker.specs.declared.unready.Unready.{Unready}
-use Rattle.maker.specs.declared.unready.Unready.TheVariants as unready
+use Rattle.maker.specs.declared.make_error.MakeError.{MakeError}
+use Rattle.maker.specs.declared.make_error.MakeError.TheVariants as make_error
 use Rattle.maker.specs.Told.{IsLine, IsWritten, Tells, TellsLine}
 
 -- seven parts of a line, joined from the right and from the left
@@ -90,12 +90,12 @@ convicts_on policy p q r s given said same words h =
 
 module _ (native : Arch) (bundle filter : List ℕ) where
   -- a fault of the maker, beside a filter that the kernel accepts
-  pub certify_open : (policy : Policy) (e : CertifyError) (u : Unready) → AreJudged native bundle filter policy
-      → IsToldAs unready.Certify maker.OutOfMemory e u → (IsSteady (insns_of filter) 0 Nothing → IsOfSize e) → u ≢ unready.OutOfMemory
+  pub certify_open : (policy : Policy) (e : CertifyError) (u : MakeError) → AreJudged native bundle filter policy
+      → IsToldAs make_error.Certify maker.OutOfMemory e u → (IsSteady (insns_of filter) 0 Nothing → IsOfSize e) → u ≢ make_error.OutOfMemory
       → IsOpen native bundle filter u
   certify_open policy e u judged (inl memory) steady other = absurd (other memory.1)
   certify_open policy e u judged (inr step) steady other =
-      subst (λ (v : Unready). IsOpen native bundle filter v) (sym step.1)
+      subst (λ (v : MakeError). IsOpen native bundle filter v) (sym step.1)
       (record { policy = policy; judged = judged; no_memory = step.0; steady = λ compares. large (steady compares) step.0 })
     where
       large : IsOfSize e → e ≢ maker.OutOfMemory → e ≡ maker.TooLarge
@@ -104,11 +104,11 @@ module _ (native : Arch) (bundle filter : List ℕ) where
 
   -- the bytes are no program, or one that the kernel refuses
   pub view_open : (policy : Policy) (e : ViewError) → IsBundle native bundle policy → view_fault filter ≡ Some e
-      → IsOpen native bundle filter (unready.Check (error.View e))
+      → IsOpen native bundle filter (make_error.Check (error.View e))
   view_open policy e means fault = (tt, (policy, [], means, first_view policy filter [] e fault))
 
   pub kernel_open : (policy : Policy) (e : Refused) → IsBundle native bundle policy → view_fault filter ≡ None
-      → IsRefusal (insns_of filter) e → IsOpen native bundle filter (unready.Check (error.Kernel e))
+      → IsRefusal (insns_of filter) e → IsOpen native bundle filter (make_error.Check (error.Kernel e))
   kernel_open policy e means program refused = (tt, (policy, [], means, first_kernel policy filter [] program e refused))
 
 module _ {S : Type 0} (held : S → Option (List ℕ)) (failures : S → Failures) (old new : S) (native : Arch) (bundle filter : List ℕ) where
@@ -143,8 +143,8 @@ yes_of_valid policy p filter cert clear same whole taken valid =
     }
 
 -- want of memory is told as such
-pub told_memory : (e : CertifyError) (u : Unready) → IsToldAs unready.Certify maker.OutOfMemory e u → e ≡ maker.OutOfMemory
-    → u ≡ unready.OutOfMemory
+pub told_memory : (e : CertifyError) (u : MakeError) → IsToldAs make_error.Certify maker.OutOfMemory e u → e ≡ maker.OutOfMemory
+    → u ≡ make_error.OutOfMemory
 told_memory e u (inl memory) is = memory.1
 told_memory e u (inr step) is = absurd (step.0 is)
 
@@ -158,16 +158,16 @@ evidence_for native bundle filter policy p (Convicting found) judged clear same 
     (policy, judged, subst (λ (q : List Insn). IsConviction policy q found) same convicts)
 
 -- a fault of the bundle
-pub profile_open : (native : Arch) (bundle filter : List ℕ) (e : ProfileError) (u : Unready)
-    → IfSome (fault_of e) (Breaks bundle native) → IsToldAs unready.Profile refusal.OutOfMemory e u → u ≢ unready.OutOfMemory
+pub profile_open : (native : Arch) (bundle filter : List ℕ) (e : ProfileError) (u : MakeError)
+    → IfSome (fault_of e) (Breaks bundle native) → IsToldAs make_error.Profile refusal.OutOfMemory e u → u ≢ make_error.OutOfMemory
     → IsOpen native bundle filter u
 profile_open native bundle filter e u stands (inl memory) other = absurd (other memory.1)
 profile_open native bundle filter e u stands (inr step) other =
-    subst (λ (v : Unready). IsOpen native bundle filter v) (sym step.1) (step.0, stands)
+    subst (λ (v : MakeError). IsOpen native bundle filter v) (sym step.1) (step.0, stands)
 
 -- a bundle that means a profile has none
-pub own_read : (native : Arch) (bundle : List ℕ) (policy : Policy) (e : ProfileError) (u : Unready) → IsBundle native bundle policy
-    → IfSome (fault_of e) (Breaks bundle native) → IsToldAs unready.Profile refusal.OutOfMemory e u → u ≡ unready.OutOfMemory
+pub own_read : (native : Arch) (bundle : List ℕ) (policy : Policy) (e : ProfileError) (u : MakeError) → IsBundle native bundle policy
+    → IfSome (fault_of e) (Breaks bundle native) → IsToldAs make_error.Profile refusal.OutOfMemory e u → u ≡ make_error.OutOfMemory
 own_read native bundle policy e u means stands (inl memory) = memory.1
 own_read native bundle policy e u means stands (inr step) =
     absurd (no_fault meaning_is_unbroken meaning_is_one native bundle policy e means step.0 stands)

@@ -19,11 +19,11 @@ use Rattle.export.specs.Forms.{bytes_in}
 use Rattle.texts.specs.Sink.{WritesMade}
 use Rattle.texts.specs.declared.streams.fault.WriteFault.{WriteFault}
 use Rattle.texts.specs.declared.streams.fault.WriteFault.TheVariants.{Write, OutOfMemory}
-use Rattle.maker.specs.declared.unready.Unready.{Unready}
-use Rattle.maker.specs.declared.unready.Unready.TheVariants as unready
+use Rattle.maker.specs.declared.make_error.MakeError.{MakeError}
+use Rattle.maker.specs.declared.make_error.MakeError.TheVariants as make_error
 use Rattle.profile.specs.Policy.{Policy}
 use Rattle.maker.specs.Finding.{IsBundle, IsYes}
-use Rattle.maker.specs.Exported.{Exports, IsCheckedOf, IsUnready, Refuses, WritesFilter}
+use Rattle.maker.specs.Exported.{Exports, IsCheckedOf, IsMakeError, Refuses, WritesFilter}
 
 -- the bytes of a program are eight for each instruction
 pub in_eights : (bytes : List ℕ) → view_fault bytes ≡ None → length bytes % 8 ≡ 0
@@ -74,7 +74,7 @@ module _ {S : Type 0} (held : S → Option (List ℕ)) (failures : S → Failure
         record { checked = checked; is = is; written = as_failed T (bytes_in form checked) fault written; told = tt } in
         inl (subst (λ (r : Result Bool WriteFault). WritesFilter held failures old new native bundle form r) (sym e) here)
 
-    pub refused : (u : Unready) (result : Result Bool WriteFault) → (u ≢ unready.OutOfMemory → IsUnready native bundle u)
+    pub refused : (u : MakeError) (result : Result Bool WriteFault) → (u ≢ make_error.OutOfMemory → IsMakeError native bundle u)
         → Refuses held failures old new u result → Exports held failures old new native bundle form result
-    refused u result why (inl h) = inr (inl (record { unready = u; is = why h.0; written = h.1; told = h.2 }))
+    refused u result why (inl h) = inr (inl (record { make_error = u; is = why h.0; written = h.1; told = h.2 }))
     refused u result why (inr h) = inr (inr h)

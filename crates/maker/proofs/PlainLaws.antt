@@ -26,9 +26,9 @@ use Rattle.maker.proofs.CompiledLaws.{compiled}
 use Rattle.texts.specs.Failures.{Failures}
 use Rattle.texts.specs.declared.streams.fault.WriteFault.{WriteFault}
 use Rattle.export.specs.declared.form.Form.{Form}
-use Rattle.maker.specs.declared.unready.Unready.{Unready}
-use Rattle.maker.specs.declared.unready.Unready.TheVariants.{Profile, Compile, Certify, Check, OutOfMemory}
-use Rattle.maker.specs.Exported.{Exports, ExportsFilter, IsToldAs, IsUnready}
+use Rattle.maker.specs.declared.make_error.MakeError.{MakeError}
+use Rattle.maker.specs.declared.make_error.MakeError.TheVariants.{Profile, Compile, Certify, Check, OutOfMemory}
+use Rattle.maker.specs.Exported.{Exports, ExportsFilter, IsToldAs, IsMakeError}
 use Rattle.maker.specs.Finding.{IsBundle}
 use Rattle.maker.specs.Plain.{IsNotPlain, IsPlainBundle}
 use Rattle.maker.specs.inner.Proposed.{IsMade, IsUnbroken}
@@ -37,7 +37,7 @@ use Rattle.maker.proofs.FindingLaws.{no_fault, one_policy}
 -- ---- steps
 
 -- a step that lacks memory is told so
-pub told_memory : {E T : Type 0} (step : E → Unready) (memory e : E) (r : Result T Unready) → IsErrAnd r (IsToldAs step memory e)
+pub told_memory : {E T : Type 0} (step : E → MakeError) (memory e : E) (r : Result T MakeError) → IsErrAnd r (IsToldAs step memory e)
     → e ≡ memory → IfErr r (λ u. u ≡ OutOfMemory)
 told_memory step memory e (Ok x) told is = tt
 told_memory step memory e (Err u) (inl h) is = h.1
@@ -48,13 +48,13 @@ is_not_plain : {E : Type 0} (memory e : E) (native : Arch) (bundle : List ℕ) (
     → (IsPlain policy → e ≡ memory) → IsBundle native bundle policy → IsNotPlain native bundle
 is_not_plain memory e native bundle policy other never is = (policy, is, λ plain. other (never plain))
 
-not_compiled : (policy : Policy) (e : CompileError) (u : Unready) → (IsPlain policy → e ≡ compiler.OutOfMemory)
+not_compiled : (policy : Policy) (e : CompileError) (u : MakeError) → (IsPlain policy → e ≡ compiler.OutOfMemory)
     → (e ≡ compiler.TooLong → IsPlannedTooLong policy) → IsToldAs Compile compiler.OutOfMemory e u
     → (native : Arch) (bundle : List ℕ) → IsBundle native bundle policy → u ≢ OutOfMemory
-    → IsUnready native bundle u
+    → IsMakeError native bundle u
 not_compiled policy e u never planned (inl h) native bundle is other = absurd (other h.1)
 not_compiled policy e u never planned (inr h) native bundle is other =
-    subst (IsUnready native bundle) (sym h.1)
+    subst (IsMakeError native bundle) (sym h.1)
     (too_long e h.0, (is_not_plain compiler.OutOfMemory e native bundle policy h.0 never is, (policy, is, planned (too_long e h.0)))) where
       too_long : (e : CompileError) → e ≢ compiler.OutOfMemory → e ≡ compiler.TooLong
       too_long compiler.TooLong other = refl
@@ -64,35 +64,35 @@ not_compiled policy e u never planned (inr h) native bundle is other =
 abbrev pub IsSized : Policy → CertifyError → Type 0
 IsSized policy e = IsClear policy.rules → IsOfSize e
 
-not_certified : (policy : Policy) (e : CertifyError) (u : Unready) → (IsPlain policy → e ≡ maker.OutOfMemory) → IsSized policy e
+not_certified : (policy : Policy) (e : CertifyError) (u : MakeError) → (IsPlain policy → e ≡ maker.OutOfMemory) → IsSized policy e
     → IsToldAs Certify maker.OutOfMemory e u → (native : Arch) (bundle : List ℕ) → IsBundle native bundle policy → u ≢ OutOfMemory
-    → IsUnready native bundle u
+    → IsMakeError native bundle u
 not_certified policy e u never sized (inl h) native bundle is other = absurd (other h.1)
 not_certified policy e u never sized (inr h) native bundle is other =
-    subst (IsUnready native bundle) (sym h.1)
+    subst (IsMakeError native bundle) (sym h.1)
     (too_large (sized is.2.calls.clear), is_not_plain maker.OutOfMemory e native bundle policy h.0 never is) where
       too_large : IsOfSize e → e ≡ maker.TooLarge
       too_large (inl large) = large
       too_large (inr memory) = absurd (h.0 memory)
 
 -- what is told of a step that stops
-module _ {T : Type 0} (policy : Policy) (r : Result T Unready) where
+module _ {T : Type 0} (policy : Policy) (r : Result T MakeError) where
   pub told_compile : (e : CompileError) → IsErrAnd r (IsToldAs Compile compiler.OutOfMemory e)
       → (IsPlain policy → e ≡ compiler.OutOfMemory) → (e ≡ compiler.TooLong → IsPlannedTooLong policy)
       → (native : Arch) (bundle : List ℕ) → IsBundle native bundle policy
-      → IfErr r (λ u. u ≢ OutOfMemory → IsUnready native bundle u)
+      → IfErr r (λ u. u ≢ OutOfMemory → IsMakeError native bundle u)
   told_compile e told never planned native bundle is = at r told where
-    at : (r : Result T Unready) → IsErrAnd r (IsToldAs Compile compiler.OutOfMemory e)
-        → IfErr r (λ u. u ≢ OutOfMemory → IsUnready native bundle u)
+    at : (r : Result T MakeError) → IsErrAnd r (IsToldAs Compile compiler.OutOfMemory e)
+        → IfErr r (λ u. u ≢ OutOfMemory → IsMakeError native bundle u)
     at (Ok x) told = tt
     at (Err u) told = not_compiled policy e u never planned told native bundle is
 
   pub told_certify : (e : CertifyError) → IsErrAnd r (IsToldAs Certify maker.OutOfMemory e)
       → (IsPlain policy → e ≡ maker.OutOfMemory) → IsSized policy e → (native : Arch) (bundle : List ℕ) → IsBundle native bundle policy
-      → IfErr r (λ u. u ≢ OutOfMemory → IsUnready native bundle u)
+      → IfErr r (λ u. u ≢ OutOfMemory → IsMakeError native bundle u)
   told_certify e told never sized native bundle is = at r told where
-    at : (r : Result T Unready) → IsErrAnd r (IsToldAs Certify maker.OutOfMemory e)
-        → IfErr r (λ u. u ≢ OutOfMemory → IsUnready native bundle u)
+    at : (r : Result T MakeError) → IsErrAnd r (IsToldAs Certify maker.OutOfMemory e)
+        → IfErr r (λ u. u ≢ OutOfMemory → IsMakeError native bundle u)
     at (Ok x) told = tt
     at (Err u) told = not_certified policy e u never sized told native bundle is
 
@@ -129,8 +129,8 @@ unbroken_lent policy filter lent cert written f c kept =
     subst (λ (x : List ℕ). IsUnbroken policy x written) (sym f) (subst (IsUnbroken policy filter) (sym c) kept)
 
 -- an error that tells of memory alone says nothing of the bundle
-pub only_memory : {T : Type 0} (r : Result T Unready) → IfErr r (λ u. u ≡ OutOfMemory) → (native : Arch) (bundle : List ℕ)
-    → IfErr r (λ u. u ≢ OutOfMemory → IsUnready native bundle u)
+pub only_memory : {T : Type 0} (r : Result T MakeError) → IfErr r (λ u. u ≡ OutOfMemory) → (native : Arch) (bundle : List ℕ)
+    → IfErr r (λ u. u ≢ OutOfMemory → IsMakeError native bundle u)
 only_memory (Ok x) is native bundle = tt
 only_memory (Err u) is native bundle = λ other. absurd (other is)
 
@@ -156,7 +156,7 @@ is_plain : (native : Arch) (bundle : List ℕ) (q : Policy) → IsPlainBundle na
 is_plain native bundle q (p, is, plain) other = subst IsPlain (same_policy native bundle p q is other) plain
 
 -- none is refused
-pub not_refused : (native : Arch) (bundle : List ℕ) (u : Unready) → IsPlainBundle native bundle → IsUnready native bundle u → ⊥
+pub not_refused : (native : Arch) (bundle : List ℕ) (u : MakeError) → IsPlainBundle native bundle → IsMakeError native bundle u → ⊥
 not_refused native bundle (Profile e) (p, is, plain) h = no_fault meaning_is_unbroken meaning_is_one native bundle p e is h.0 h.1
 not_refused native bundle (Compile e) is h = h.1.0.2 (is_plain native bundle h.1.0.0 is h.1.0.1)
 not_refused native bundle (Certify e) is h = h.1.2 (is_plain native bundle h.1.0 is h.1.1)
@@ -167,5 +167,5 @@ pub filter_is_written : {S : Type 0} (held : S → Option (List ℕ)) (failures 
     (form : Form) (result : Result Bool WriteFault) → Exports held failures old new native bundle form result
     → IsPlainBundle native bundle → ExportsFilter held failures old new native bundle form result
 filter_is_written held failures old new native bundle form result (inl h) is = inl h
-filter_is_written held failures old new native bundle form result (inr (inl h)) is = absurd (not_refused native bundle h.unready is h.is)
+filter_is_written held failures old new native bundle form result (inr (inl h)) is = absurd (not_refused native bundle h.make_error is h.is)
 filter_is_written held failures old new native bundle form result (inr (inr h)) is = inr h

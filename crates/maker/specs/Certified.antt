@@ -23,11 +23,11 @@ use Rattle.texts.specs.Failures.{Failures}
 use Rattle.texts.specs.Sink.{WritesMade}
 use Rattle.texts.specs.declared.streams.fault.WriteFault.{WriteFault}
 use Rattle.texts.specs.Lines.{line_feed}
-use Rattle.maker.specs.Exported.{IsUnready, LacksMemory, line_of}
+use Rattle.maker.specs.Exported.{IsMakeError, LacksMemory, line_of}
 use Rattle.maker.specs.Finding.{IsBundle, IsFinding, IsYes}
 use Rattle.maker.specs.declared.check.Finding.TheVariants.{Yes}
-use Rattle.maker.specs.declared.unready.Unready.{Unready}
-use Rattle.maker.specs.declared.unready.Unready.TheVariants.{Profile, Compile, Certify, Check, OutOfMemory}
+use Rattle.maker.specs.declared.make_error.MakeError.{MakeError}
+use Rattle.maker.specs.declared.make_error.MakeError.TheVariants.{Profile, Compile, Certify, Check, OutOfMemory}
 
 -- the bundle means the profile, and the filter's bytes are a program that the kernel accepts
 pub record AreJudged (native : Arch) (bundle filter : List ℕ) (policy : Policy) : Type 0 where
@@ -72,8 +72,8 @@ pub record IsUndecided (native : Arch) (bundle filter : List ℕ) (e : CertifyEr
 
 -- Why there is neither. The bundle breaks a rule of bundles. Or it means a profile, and the filter's bytes are no program that
 -- the kernel accepts. Or neither was found. Want of memory is no such reason.
-abbrev pub IsOpen : Arch → List ℕ → List ℕ → Unready → Type 0
-IsOpen native bundle filter (Profile e) = IsUnready native bundle (Profile e)
+abbrev pub IsOpen : Arch → List ℕ → List ℕ → MakeError → Type 0
+IsOpen native bundle filter (Profile e) = IsMakeError native bundle (Profile e)
 IsOpen native bundle filter (Compile e) = ⊥
 IsOpen native bundle filter (Certify e) = IsUndecided native bundle filter e
 IsOpen native bundle filter (Check e) =
@@ -88,12 +88,12 @@ IsEvidenceFor native bundle filter (Convicting found) =
     (policy : Policy) × AreJudged native bundle filter policy × IsConviction policy (insns_of filter) found
 
 -- what is judged: the evidence, or why there is none
-abbrev pub IsJudgement : Arch → List ℕ → List ℕ → Result Evidence Unready → Type 0
+abbrev pub IsJudgement : Arch → List ℕ → List ℕ → Result Evidence MakeError → Type 0
 IsJudgement native bundle filter (Ok evidence) = IsEvidenceFor native bundle filter evidence
 IsJudgement native bundle filter (Err e) = e ≢ OutOfMemory → IsOpen native bundle filter e
 
 -- a certificate, or want of memory
-abbrev pub IsOwnJudgement : Result Evidence Unready → Type 0
+abbrev pub IsOwnJudgement : Result Evidence MakeError → Type 0
 IsOwnJudgement (Ok evidence) = IsCertificate evidence
 IsOwnJudgement (Err e) = e ≡ OutOfMemory
 
@@ -118,9 +118,9 @@ pub record WritesConviction {S : Type 0} (held : S → Option (List ℕ)) (failu
 -- what was written is the line that says why there is neither, and the answer is false
 pub record WritesOpen {S : Type 0} (held : S → Option (List ℕ)) (failures : S → Failures) (old new : S) (native : Arch)
     (bundle filter : List ℕ) (result : Result Bool WriteFault) : Type 0 where
-  pub unready : Unready
-  pub is : IsOpen native bundle filter unready
-  pub written : WritesMade held failures old new (line_of unready) result
+  pub make_error : MakeError
+  pub is : IsOpen native bundle filter make_error
+  pub written : WritesMade held failures old new (line_of make_error) result
   pub told : IfOk result (λ done. done ≡ false)
 
 -- what `ccell certify` writes for a bundle and a filter

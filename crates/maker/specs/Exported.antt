@@ -24,8 +24,8 @@ use Rattle.export.specs.declared.form.Form.TheVariants.{Raw, Certificate}
 use Rattle.texts.specs.Lines.{line_feed}
 use Rattle.maker.specs.Finding.{IsBundle, IsYes}
 use Rattle.maker.specs.Plain.{IsNotPlain}
-use Rattle.maker.specs.declared.unready.Unready.{Unready}
-use Rattle.maker.specs.declared.unready.Unready.TheVariants.{Profile, Compile, Certify, Check, OutOfMemory}
+use Rattle.maker.specs.declared.make_error.MakeError.{MakeError}
+use Rattle.maker.specs.declared.make_error.MakeError.TheVariants.{Profile, Compile, Certify, Check, OutOfMemory}
 
 -- The bundle means its profile. The checker says yes to the bytes of its filter with those of its certificate, in the forms in
 -- which they are exported.
@@ -41,15 +41,15 @@ IsTooLong native bundle = (policy : Policy) × IsBundle native bundle policy × 
 -- Why a bundle has no checked filter. It breaks a rule of bundles. Or it means a profile that is not plain. Then its filter is
 -- longer than a filter may be, or each certificate that was made of it is larger than one may be. The checker never says no.
 -- Want of memory is no such reason.
-abbrev pub IsUnready : Arch → List ℕ → Unready → Type 0
-IsUnready native bundle (Profile e) = (e ≢ refusal.OutOfMemory) × IfSome (fault_of e) (Breaks bundle native)
-IsUnready native bundle (Compile e) = (e ≡ compiler.TooLong) × (IsNotPlain native bundle × IsTooLong native bundle)
-IsUnready native bundle (Certify e) = (e ≡ maker.TooLarge) × IsNotPlain native bundle
-IsUnready native bundle (Check e) = ⊥
-IsUnready native bundle OutOfMemory = ⊥
+abbrev pub IsMakeError : Arch → List ℕ → MakeError → Type 0
+IsMakeError native bundle (Profile e) = (e ≢ refusal.OutOfMemory) × IfSome (fault_of e) (Breaks bundle native)
+IsMakeError native bundle (Compile e) = (e ≡ compiler.TooLong) × (IsNotPlain native bundle × IsTooLong native bundle)
+IsMakeError native bundle (Certify e) = (e ≡ maker.TooLarge) × IsNotPlain native bundle
+IsMakeError native bundle (Check e) = ⊥
+IsMakeError native bundle OutOfMemory = ⊥
 
 -- the text that says it
-abbrev pub text_of : Unready → List ℕ
+abbrev pub text_of : MakeError → List ℕ
 text_of (Profile e) = codes "refused profile " ++ refusal_text e
 text_of (Compile e) = codes "refused compile " ++ compile_text e
 text_of (Certify e) = codes "refused certify " ++ certify_text e
@@ -57,12 +57,12 @@ text_of (Check e) = codes "no " ++ error_text e
 text_of OutOfMemory = codes "out of memory"
 
 -- the line that says it
-abbrev pub line_of : Unready → List ℕ
-line_of unready = text_of unready ++ line_feed ∷ []
+abbrev pub line_of : MakeError → List ℕ
+line_of make_error = text_of make_error ++ line_feed ∷ []
 
 -- a fault by which a step stops: want of memory is told as that, and any other as the step's refusal
-abbrev pub IsToldAs : {E : Type 0} → (E → Unready) → E → E → Unready → Type 0
-IsToldAs step memory e unready = ((e ≡ memory) × (unready ≡ OutOfMemory)) ⊎ ((e ≢ memory) × (unready ≡ step e))
+abbrev pub IsToldAs : {E : Type 0} → (E → MakeError) → E → E → MakeError → Type 0
+IsToldAs step memory e make_error = ((e ≡ memory) × (make_error ≡ OutOfMemory)) ⊎ ((e ≢ memory) × (make_error ≡ step e))
 
 -- what was written is a checked filter of the bundle in the form, and the answer is true
 pub record WritesFilter {S : Type 0} (held : S → Option (List ℕ)) (failures : S → Failures) (old new : S) (native : Arch) (bundle : List ℕ)
@@ -73,11 +73,11 @@ pub record WritesFilter {S : Type 0} (held : S → Option (List ℕ)) (failures 
   pub told : IfOk result (λ done. done ≡ true)
 
 -- what was written is the line that says why there is none, and the answer is false
-pub record WritesUnready {S : Type 0} (held : S → Option (List ℕ)) (failures : S → Failures) (old new : S) (native : Arch) (bundle : List ℕ)
+pub record WritesMakeError {S : Type 0} (held : S → Option (List ℕ)) (failures : S → Failures) (old new : S) (native : Arch) (bundle : List ℕ)
     (result : Result Bool WriteFault) : Type 0 where
-  pub unready : Unready
-  pub is : IsUnready native bundle unready
-  pub written : WritesMade held failures old new (line_of unready) result
+  pub make_error : MakeError
+  pub is : IsMakeError native bundle make_error
+  pub written : WritesMade held failures old new (line_of make_error) result
   pub told : IfOk result (λ done. done ≡ false)
 
 -- memory was refused, and nothing was written
@@ -89,7 +89,7 @@ abbrev pub Exports : {S : Type 0} → (S → Option (List ℕ)) → (S → Failu
     → Result Bool WriteFault → Type 0
 Exports held failures old new native bundle form result =
     WritesFilter held failures old new native bundle form result
-    ⊎ (WritesUnready held failures old new native bundle result ⊎ LacksMemory old new result)
+    ⊎ (WritesMakeError held failures old new native bundle result ⊎ LacksMemory old new result)
 
 -- a checked filter of the bundle was written, or memory was refused
 abbrev pub ExportsFilter : {S : Type 0} → (S → Option (List ℕ)) → (S → Failures) → S → S → Arch → List ℕ → Form
@@ -98,7 +98,7 @@ ExportsFilter held failures old new native bundle form result =
     WritesFilter held failures old new native bundle form result ⊎ LacksMemory old new result
 
 -- what is written of a refusal, if it is one
-abbrev pub Refuses : {S : Type 0} → (S → Option (List ℕ)) → (S → Failures) → S → S → Unready → Result Bool WriteFault → Type 0
-Refuses held failures old new unready result =
-    ((unready ≢ OutOfMemory) × WritesMade held failures old new (line_of unready) result × IfOk result (λ done. done ≡ false))
+abbrev pub Refuses : {S : Type 0} → (S → Option (List ℕ)) → (S → Failures) → S → S → MakeError → Result Bool WriteFault → Type 0
+Refuses held failures old new make_error result =
+    ((make_error ≢ OutOfMemory) × WritesMade held failures old new (line_of make_error) result × IfOk result (λ done. done ≡ false))
     ⊎ LacksMemory old new result

@@ -14,7 +14,7 @@ ghost use Rattle.maker.specs.Finding.{IsBundle};
 ghost use Rattle.maker.specs.Told.{IsLine, IsWritten, Tells};
 
 use crate::evidence::{Conviction, Evidence, judge};
-use crate::unready::{Unready, refuse};
+use crate::make_error::{MakeError, refuse};
 use bpf_insn::Program;
 use call_record::{Word, words_are_a_record};
 use cert_check::CheckError;
@@ -68,7 +68,7 @@ fn tell<S: Sink>(alloc: Global, found: &Conviction, sink: &mut S) -> Result<bool
 }
 
 // What is judged of a profile and a filter that the kernel accepts.
-fn judged(alloc: Global, profile: &Profile, program: &Accepted<'_>) -> Result<Evidence, Unready>
+fn judged(alloc: Global, profile: &Profile, program: &Accepted<'_>) -> Result<Evidence, MakeError>
     ensures found { (native : TheArch) (bundle filter : List ℕ) → AreJudged native bundle filter profile.now
         → accepted_insns program.now ≡ insns_of filter → IsJudgement native bundle filter result }
     ensures own { (native : TheArch) (bundle filter : List ℕ) → IsOwnFilter native bundle filter profile.now
@@ -77,23 +77,23 @@ fn judged(alloc: Global, profile: &Profile, program: &Accepted<'_>) -> Result<Ev
     profile.rules();
     match judge(alloc, profile, program) {
         Ok(evidence) => Ok(evidence),
-        Err(error) => Err(Unready::from(error)),
+        Err(error) => Err(MakeError::from(error)),
     }
 }
 
 /// The evidence on the bytes of a filter, beside the profile that a bundle means. Whoever has read the bundle has it judged by this.
-pub fn judge_filter(alloc: Global, profile: &Profile, filter: &[u8]) -> Result<Evidence, Unready>
+pub fn judge_filter(alloc: Global, profile: &Profile, filter: &[u8]) -> Result<Evidence, MakeError>
     ensures found { (native : TheArch) (bundle : List ℕ) → IsBundle native bundle profile.now
         → IsJudgement native bundle filter.now result }
     ensures own { (native : TheArch) (bundle : List ℕ) → IsOwnFilter native bundle filter.now profile.now → IsOwnJudgement result }
 {
     let program = match Program::view(filter) {
         Ok(program) => program,
-        Err(fault) => return Err(Unready::Check(CheckError::View(fault))),
+        Err(fault) => return Err(MakeError::Check(CheckError::View(fault))),
     };
     match accept(&program) {
         Ok(accepted) => judged(alloc, profile, &accepted),
-        Err(refused) => Err(Unready::Check(CheckError::Kernel(refused))),
+        Err(refused) => Err(MakeError::Check(CheckError::Kernel(refused))),
     }
 }
 
@@ -103,20 +103,24 @@ fn judge_text(
     native: Arch,
     bundle: &[u8],
     filter: &[u8],
-) -> Result<Evidence, Unready>
+) -> Result<Evidence, MakeError>
     ensures found { IsJudgement native bundle.now filter.now result }
     ensures own { (policy : Policy) → IsOwnFilter native bundle.now filter.now policy → IsOwnJudgement result }
 {
     match read_bundle(alloc, bundle, native) {
         Ok(bundle) => judge_filter(alloc, &bundle.profile, filter),
-        Err(error) => Err(Unready::from(error)),
+        Err(error) => Err(MakeError::from(error)),
     }
 }
 
 /// The evidence on a filter, beside a bundle. It is a certificate that the filter answers what the bundle says, to which the checker says
 /// yes. Or it is a call record on which the filter gives another verdict. Or else the reason is returned why there is neither. For a filter
 /// that compares steadily this is only that the format has no room.
-pub fn judge_bundle(alloc: Global, document: &Document, filter: &[u8]) -> Result<Evidence, Unready>
+pub fn judge_bundle(
+    alloc: Global,
+    document: &Document,
+    filter: &[u8],
+) -> Result<Evidence, MakeError>
     ensures found { IsJudgement document.now.native document.now.bytes filter.now result }
     // Take a bundle that means a plain profile, and a filter as the compiler makes it of such. There is a certificate, unless memory is
     // refused.
@@ -124,7 +128,7 @@ pub fn judge_bundle(alloc: Global, document: &Document, filter: &[u8]) -> Result
 {
     match document.bundle() {
         Ok(bundle) => judge_filter(alloc, &bundle.profile, filter),
-        Err(error) => Err(Unready::from(error)),
+        Err(error) => Err(MakeError::from(error)),
     }
 }
 
@@ -162,7 +166,7 @@ fn write_evidence<S: Sink>(
 /// certificate was written.
 pub fn write_judged<S: Sink>(
     alloc: Global,
-    judged: &Result<Evidence, Unready>,
+    judged: &Result<Evidence, MakeError>,
     sink: &mut S,
 ) -> Result<bool, WriteFault>
     ensures found { (native : TheArch) (bundle filter : List ℕ) → IsJudgement native bundle filter judged.now
@@ -175,7 +179,7 @@ pub fn write_judged<S: Sink>(
 {
     match judged {
         Ok(evidence) => write_evidence(alloc, evidence, sink),
-        Err(unready) => refuse(alloc, unready, sink),
+        Err(make_error) => refuse(alloc, make_error, sink),
     }
 }
 

@@ -2,8 +2,8 @@
 ghost use Rattle.maker.specs.Exported.{Exports, ExportsFilter};
 ghost use Rattle.maker.specs.Plain.{IsPlainBundle};
 
-use crate::slot::Slot;
-use crate::unready::refuse;
+use crate::checked_bundle::CheckedBundle;
+use crate::make_error::refuse;
 use export::{Form, export_form};
 use machines::Arch;
 use std::alloc::Global;
@@ -23,12 +23,12 @@ pub fn export_bundle<S: Sink>(
     ensures own { IsPlainBundle native bundle.now
         → ExportsFilter S.held S.failures sink.old sink.new native bundle.now form result }
 {
-    let mut slot = Slot::new();
-    match slot.fill(alloc, native, bundle) {
+    let mut checked_bundle = CheckedBundle::new();
+    match checked_bundle.fill(alloc, native, bundle) {
         Ok(checked) => {
             export_form(alloc, &checked, form, sink)?;
             Ok(true)
         }
-        Err(unready) => refuse(alloc, &unready, sink),
+        Err(make_error) => refuse(alloc, &make_error, sink),
     }
 }

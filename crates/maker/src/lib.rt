@@ -1,28 +1,28 @@
 //! What is judged and made of a bundle, a filter and a certificate, and what each command writes of them: `verdict`, `check`,
-//! `certify` (`certifying`) and `export` (`exporting`). `slot` has the way from a bundle to its checked filter. `evidence` has that from a
+//! `certify` (`certifying`) and `export` (`exporting`). `checked_bundle` has the way from a bundle to its checked filter. `evidence` has that from a
 //! filter to its certificate, or to a record that is a counterexample. `outline` and `record_search`, of which it takes both, promise
 //! nothing. The checker stands on none of this.
 #![tactic(auto)]
 
 mod certifying;
 mod check;
+mod checked_bundle;
 mod evidence;
 mod exporting;
 mod law;
+mod make_error;
 mod own;
 mod proposal;
 mod shorter;
-mod slot;
-mod unready;
 mod verdict;
 
 pub use certifying::{certify_bundle, judge_bundle, judge_filter, line_of, write_judged};
 pub use check::{Finding, check_line, finding_of};
+pub use checked_bundle::CheckedBundle;
 pub use evidence::{
     Conviction, Evidence, compiled_is_right, judge, shape_is_right, table_profiles_are_plain,
 };
 pub use exporting::export_bundle;
 pub use law::{bundles_are_plain, evidence_excludes, findings_exclude, one_answer};
-pub use slot::Slot;
-pub use unready::{Unready, refuse};
+pub use make_error::{MakeError, refuse};
 pub use verdict::{Answer, answer_to, verdict_line};

@@ -7,14 +7,14 @@ ghost use Rattle.rule_compile.specs.Plan.{IsPlanOf, IsPlannedTooLong};
 ghost use Rattle.rule_compile.specs.Right.{IsRightFilter};
 ghost use Rattle.rule_compile.specs.Shape.{IsCallFilter, IsPlain};
 ghost use Rattle.rule_compile.specs.Steady.{IsSteady, Nothing};
-ghost use Rattle.maker.specs.declared.unready.Unready.TheVariants.{OutOfMemory};
-ghost use Rattle.maker.specs.Exported.{IsUnready};
+ghost use Rattle.maker.specs.declared.make_error.MakeError.TheVariants.{OutOfMemory};
+ghost use Rattle.maker.specs.Exported.{IsMakeError};
 ghost use Rattle.maker.specs.Finding.{IsBundle};
 ghost use Rattle.maker.specs.inner.Proposed.{IsMade, IsUnbroken};
 
 use crate::evidence::propose;
+use crate::make_error::MakeError;
 use crate::proposal::Proposal;
-use crate::unready::Unready;
 use bpf_insn::Program;
 use certify::certify_accepted;
 use kernel_check::accept;
@@ -38,14 +38,14 @@ pub(crate) fn proposed(
     alloc: Global,
     profile: &Profile,
     planned: Planned,
-) -> Result<Proposal, Unready>
+) -> Result<Proposal, MakeError>
     requires { IsPlanOf profile.now planned.insns.items }
     ensures made { IfOk result (λ made. IsMade profile.now made.filter.items) }
     // What is proposed of a plain profile breaks no rule, and only memory is ever refused.
     ensures own { IsPlain profile.now → IfOk result (λ made. IsUnbroken profile.now made.filter.items made.certificate.items) }
-    ensures never { IsPlain profile.now → IfErr result (λ unready. unready ≡ OutOfMemory) }
+    ensures never { IsPlain profile.now → IfErr result (λ make_error. make_error ≡ OutOfMemory) }
     ensures err { (native : TheArch) (bundle : List ℕ) → IsBundle native bundle profile.now
-        → IfErr result (λ unready. unready ≢ OutOfMemory → IsUnready native bundle unready) }
+        → IfErr result (λ make_error. make_error ≢ OutOfMemory → IsMakeError native bundle make_error) }
 {
     let made = compiled(alloc, profile, planned)?;
     let Ok(program) = Program::view(&made.bytes) else {
@@ -62,12 +62,16 @@ pub(crate) fn proposed(
 }
 
 /// The certificate that follows each path of the compiler's filter.
-pub(crate) fn followed(alloc: Global, profile: &Profile, filter: &[u8]) -> Result<Vec<u8>, Unready>
+pub(crate) fn followed(
+    alloc: Global,
+    profile: &Profile,
+    filter: &[u8],
+) -> Result<Vec<u8>, MakeError>
     requires { IsMade profile.now filter.now }
     ensures unbroken { IfOk result (λ cert. IsUnbroken profile.now filter.now cert.items) }
     ensures err { (native : TheArch) (bundle : List ℕ) → IsBundle native bundle profile.now
         → (IsPlain profile.now → ⊥)
-        → IfErr result (λ unready. unready ≢ OutOfMemory → IsUnready native bundle unready) }
+        → IfErr result (λ make_error. make_error ≢ OutOfMemory → IsMakeError native bundle make_error) }
 {
     let Ok(program) = Program::view(filter) else {
         unreachable!();

@@ -3,13 +3,13 @@
 //! each path.
 ghost use Rattle.std.specs.Prelude.{◌≡◌, IfErr};
 ghost use Rattle.certify.specs.declared.error.CertifyError.TheVariants as maker;
-ghost use Rattle.maker.specs.declared.unready.Unready.TheVariants.{OutOfMemory};
+ghost use Rattle.maker.specs.declared.make_error.MakeError.TheVariants.{OutOfMemory};
 
 use crate::evidence::{
     Hand, are_plain, by_merged, bytes_of, has_too_many, propose_shared, shortened,
 };
+use crate::make_error::MakeError;
 use crate::proposal::Proposal;
-use crate::unready::Unready;
 use bpf_insn::Program;
 use certify::{CertifyError, certify_accepted};
 use kernel_check::{Accepted, accept};
@@ -93,11 +93,11 @@ pub(crate) fn shorter(
     alloc: Global,
     profile: &Profile,
     own: &Planned,
-) -> Result<Option<Proposal>, Unready>
-    ensures { IfErr result (λ unready. unready ≡ OutOfMemory) }
+) -> Result<Option<Proposal>, MakeError>
+    ensures { IfErr result (λ make_error. make_error ≡ OutOfMemory) }
 {
     let Ok(found) = first(alloc, profile, own) else {
-        return Err(Unready::OutOfMemory);
+        return Err(MakeError::OutOfMemory);
     };
     let Some(made) = found else {
         return Ok(None);
@@ -113,7 +113,7 @@ pub(crate) fn shorter(
             filter: made.bytes,
             certificate,
         })),
-        Err(CertifyError::OutOfMemory) => Err(Unready::OutOfMemory),
+        Err(CertifyError::OutOfMemory) => Err(MakeError::OutOfMemory),
         Err(_) => Ok(None),
     }
 }

@@ -100,7 +100,7 @@ IsUndrafted native filter other = IsSeen (family_of native) (insns_of filter) ot
 abbrev pub IsUnrecovered : Arch → List ℕ → Unsaid → Option (List ℕ) → Type 0
 IsUnrecovered native filter unsaid None = IsUndrafted native filter unsaid
 IsUnrecovered native filter (why.Unlike found) (Some draft) = IsEvidenceFor native draft filter (Convicting found)
-IsUnrecovered native filter (why.Undecided unready) (Some draft) = IsJudgement native draft filter (Err unready)
+IsUnrecovered native filter (why.Undecided make_error) (Some draft) = IsJudgement native draft filter (Err make_error)
 IsUnrecovered native filter other (Some draft) = ⊥
 
 -- What a reason says of a filter's bytes. They are refused, or something was seen of them, or the bundle that was written for them was
@@ -109,5 +109,5 @@ abbrev pub IsUnsaid : Arch → List ℕ → Unsaid → Type 0
 IsUnsaid native filter (why.View fault) = view_fault filter ≡ Some fault
 IsUnsaid native filter (why.Kernel refused) = (view_fault filter ≡ None) × IsRefusal (insns_of filter) refused
 IsUnsaid native filter (why.Unlike found) = (bundle : List ℕ) × IsEvidenceFor native bundle filter (Convicting found)
-IsUnsaid native filter (why.Undecided unready) = (bundle : List ℕ) × IsJudgement native bundle filter (Err unready)
+IsUnsaid native filter (why.Undecided make_error) = (bundle : List ℕ) × IsJudgement native bundle filter (Err make_error)
 IsUnsaid native filter other = IsSeen (family_of native) (insns_of filter) other

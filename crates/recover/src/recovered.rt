@@ -17,7 +17,7 @@ use crate::unsaid::Unsaid;
 use bpf_insn::Program;
 use kernel_check::accept;
 use machines::Arch;
-use maker::{Evidence, Unready, judge_bundle};
+use maker::{Evidence, MakeError, judge_bundle};
 use profile_json::Document;
 use std::alloc::Global;
 
@@ -81,7 +81,7 @@ fn handed_out(evidence: Evidence, bundle: String) -> Result<String, Unrecovered>
 
 // The bundle, if it was judged that the filter has a certificate, or why it is not handed out.
 fn handed_out_if_judged(
-    judged: Result<Evidence, Unready>,
+    judged: Result<Evidence, MakeError>,
     bundle: String,
 ) -> Result<String, Unrecovered>
     ensures recovered { (native : TheArch) (filter : List ℕ) → IsJudgement native (string_bytes bundle) filter judged
@@ -93,12 +93,12 @@ fn handed_out_if_judged(
 {
     match judged {
         Ok(evidence) => handed_out(evidence, bundle),
-        Err(Unready::OutOfMemory) => Err(Unrecovered {
+        Err(MakeError::OutOfMemory) => Err(Unrecovered {
             unsaid: Unsaid::OutOfMemory,
             draft: None,
         }),
-        Err(unready) => Err(Unrecovered {
-            unsaid: Unsaid::Undecided(unready),
+        Err(make_error) => Err(Unrecovered {
+            unsaid: Unsaid::Undecided(make_error),
             draft: Some(bundle),
         }),
     }

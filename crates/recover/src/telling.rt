@@ -114,7 +114,7 @@ fn put_other(text: &mut String, native: Arch, unsaid: &Unsaid) -> Result<(), All
             text.push_str("no section was found: what was written says another action: ")?;
             put_shown(text, native, &one)
         }
-        Unsaid::Undecided(unready) => write!(text, "no section was found: {unready}"),
+        Unsaid::Undecided(make_error) => write!(text, "no section was found: {make_error}"),
         _ => text.push_str("no section was found: there are too many comparisons, or entries"),
     }
 }

@@ -2,7 +2,7 @@
 use bpf_insn::ViewError;
 use call_record::{Record, Word};
 use kernel_check::Refused;
-use maker::{Conviction, Unready};
+use maker::{Conviction, MakeError};
 use std::alloc::{AllocError, AllocFailed};
 
 /// A call record, and the verdict that the filter gives it.
@@ -40,7 +40,7 @@ pub enum Unsaid {
     /// What was written says another verdict.
     Unlike(Conviction),
     /// It was not shown that what was written says the same.
-    Undecided(Unready),
+    Undecided(MakeError),
     /// There is not enough memory.
     OutOfMemory,
 }
@@ -51,11 +51,11 @@ impl From<AllocError> for Unsaid {
     }
 }
 
-impl From<Unready> for Unsaid {
-    fn from(unready: Unready) -> Unsaid {
-        match unready {
-            Unready::OutOfMemory => Unsaid::OutOfMemory,
-            _ => Unsaid::Undecided(unready),
+impl From<MakeError> for Unsaid {
+    fn from(make_error: MakeError) -> Unsaid {
+        match make_error {
+            MakeError::OutOfMemory => Unsaid::OutOfMemory,
+            _ => Unsaid::Undecided(make_error),
         }
     }
 }

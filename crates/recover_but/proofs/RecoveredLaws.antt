@@ -6,7 +6,7 @@ use Rattle.machines.specs.declared.arch.Arch.{Arch}
 use Rattle.machines.specs.declared.arch.Family.{Family}
 use Rattle.maker.specs.declared.evidence.evidence.Evidence.{Evidence}
 use Rattle.maker.specs.declared.evidence.evidence.Evidence.TheVariants.{Certificate, Convicting}
-use Rattle.maker.specs.declared.unready.Unready.{Unready}
+use Rattle.maker.specs.declared.make_error.MakeError.{MakeError}
 use Rattle.profile.specs.Policy.{Policy}
 use Rattle.compare.specs.declared.behind_runc.stub.calls.Calls.{Calls}
 use Rattle.compare.specs.Behind.{AreAccepted, IsBehind, IsJudgedBehind}
@@ -56,7 +56,7 @@ module _ (native : Arch) (bundle filter rest : List ℕ) (answered : List Calls)
       right = is.but (λ e. cc);
     }
 
-    pub recovered_by : (aside : List Calls) (whole : Bool) (judged : Result Evidence Unready) → IsCertified judged
+    pub recovered_by : (aside : List Calls) (whole : Bool) (judged : Result Evidence MakeError) → IsCertified judged
         → IsJudged native bundle filter rest answered leave aside whole judged
         → IsRecoveredBut native bundle filter leave (stub_calls whole answered) aside
     recovered_by aside whole (Ok (Certificate bytes)) certified is = of_certificate aside whole bytes is

@@ -7,7 +7,7 @@ use Rattle.machines.specs.declared.arch.Family.{Family}
 use Rattle.machines.specs.Arch.{family_of}
 use Rattle.maker.specs.evidence.Conviction.{IsCertificate}
 use Rattle.maker.specs.declared.evidence.evidence.Evidence.{Evidence}
-use Rattle.maker.specs.declared.unready.Unready.{Unready}
+use Rattle.maker.specs.declared.make_error.MakeError.{MakeError}
 use Rattle.compare.specs.declared.behind_runc.stub.calls.Calls.{Calls}
 use Rattle.compare.specs.Behind.{AreAccepted, IsBehind}
 use Rattle.compare.specs.StubTold.{calls_line, stub_text}
@@ -25,14 +25,14 @@ pub record IsRecoveredBut (native : Arch) (bundle filter : List ℕ) (leave : Le
   pub right : MeansRightBut native bundle filter answered aside
 
 -- what was judged is a certificate
-abbrev pub IsCertified : Result Evidence Unready → Type 0
+abbrev pub IsCertified : Result Evidence MakeError → Type 0
 IsCertified (Ok evidence) = IsCertificate evidence
 IsCertified (Err e) = ⊥
 
 -- What a reason says of the filter behind a stub. What came of judging a bundle that was written says no more.
 abbrev pub IsUnsaidBut : Arch → List ℕ → Unsaid → Type 0
 IsUnsaidBut native rest (why.Unlike found) = ⊤
-IsUnsaidBut native rest (why.Undecided unready) = ⊤
+IsUnsaidBut native rest (why.Undecided make_error) = ⊤
 IsUnsaidBut native rest other = IsUnsaid native rest other
 
 -- a line, and the lines of the calls that are left aside

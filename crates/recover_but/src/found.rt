@@ -8,7 +8,7 @@ ghost use Rattle.machines.specs.declared.arch.Arch.{Arch as TheArch};
 use aside::{But, Leave, judge_but};
 use compare::Behind;
 use machines::Arch;
-use maker::{Evidence, Unready};
+use maker::{Evidence, MakeError};
 use profile_json::Document;
 use recover::{Passed, Unsaid, draft_of};
 use std::alloc::Global;
@@ -21,15 +21,15 @@ pub struct Found {
 }
 
 // Refuses a bundle if it was not judged that the filter is right.
-fn be_right(judged: &Result<Evidence, Unready>) -> Result<(), Unsaid>
+fn be_right(judged: &Result<Evidence, MakeError>) -> Result<(), Unsaid>
     ensures right { IfOk result (λ _. IsCertified judged.now) }
     ensures reason { (native : TheArch) (rest : List ℕ) → IfErr result (IsUnsaidBut native rest) }
 {
     match judged {
         Ok(Evidence::Certificate(_)) => Ok(()),
         Ok(Evidence::Convicting(found)) => Err(Unsaid::Unlike(*found)),
-        Err(Unready::OutOfMemory) => Err(Unsaid::OutOfMemory),
-        Err(unready) => Err(Unsaid::Undecided(*unready)),
+        Err(MakeError::OutOfMemory) => Err(Unsaid::OutOfMemory),
+        Err(make_error) => Err(Unsaid::Undecided(*make_error)),
     }
 }
 

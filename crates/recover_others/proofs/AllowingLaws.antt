@@ -22,7 +22,7 @@ use Rattle.maker.specs.Certified.{IsJudgement}
 use Rattle.maker.specs.Finding.{IsBundle}
 use Rattle.maker.specs.declared.evidence.evidence.Evidence.{Evidence}
 use Rattle.maker.specs.declared.evidence.evidence.Evidence.TheVariants.{Certificate, Convicting}
-use Rattle.maker.specs.declared.unready.Unready.{Unready}
+use Rattle.maker.specs.declared.make_error.MakeError.{MakeError}
 use Rattle.other_calls.specs.Guarded.{IsGuarded}
 use Rattle.recover_others.specs.RecoveredOthers.{IsCertified, IsRightAllowing, MeansAllowing, SaysAllowing}
 
@@ -68,7 +68,7 @@ module _ (policy : Policy) (program made : List Insn) (guarded : IsGuarded polic
 
 -- ---- what was judged
 
-is_yes : (native : Arch) (bundle made : List ℕ) (judged : Result Evidence Unready) → IsCertified judged → IsJudgement native bundle made judged
+is_yes : (native : Arch) (bundle made : List ℕ) (judged : Result Evidence MakeError) → IsCertified judged → IsJudgement native bundle made judged
     → (policy : Policy) × IsBundle native bundle policy × IsRight policy (insns_of made)
 is_yes native bundle made (Ok (Certificate bytes)) certified is = (is.0, is.1, is.2.right)
 is_yes native bundle made (Ok (Convicting found)) certified is = absurd certified
@@ -76,7 +76,7 @@ is_yes native bundle made (Err e) certified is = absurd certified
 
 pub means_allowing : (native : Arch) (bundle filter made : List ℕ) (policy : Policy) → IsBundle native bundle policy
     → view_fault filter ≡ None → IsAccepted (insns_of filter) → IsGuarded policy.machines (insns_of filter) (insns_of made)
-    → (judged : Result Evidence Unready) → IsCertified judged → IsJudgement native bundle made judged → MeansAllowing native bundle filter
+    → (judged : Result Evidence MakeError) → IsCertified judged → IsJudgement native bundle made judged → MeansAllowing native bundle filter
 means_allowing native bundle filter made policy means program accepted guarded judged certified is =
     let yes = is_yes native bundle made judged certified is in
     let right : IsRight policy (insns_of made) =

@@ -10,7 +10,7 @@ use Rattle.kernel_check.specs.Accepted.{IsAccepted}
 use Rattle.profile.specs.Policy.{IsNative, Policy, Says}
 use Rattle.maker.specs.evidence.Conviction.{IsCertificate}
 use Rattle.maker.specs.declared.evidence.evidence.Evidence.{Evidence}
-use Rattle.maker.specs.declared.unready.Unready.{Unready}
+use Rattle.maker.specs.declared.make_error.MakeError.{MakeError}
 use Rattle.maker.specs.Finding.{IsBundle}
 use Rattle.recover_others.specs.Others.{AllowsOthers}
 
@@ -39,6 +39,6 @@ pub record IsRecoveredOthers (native : Arch) (bundle filter : List ℕ) : Type 0
   pub is : MeansAllowing native bundle filter
 
 -- what was judged is a certificate
-abbrev pub IsCertified : Result Evidence Unready → Type 0
+abbrev pub IsCertified : Result Evidence MakeError → Type 0
 IsCertified (Ok evidence) = IsCertificate evidence
 IsCertified (Err e) = ⊥

@@ -8,7 +8,7 @@ ghost use Rattle.recover_others.specs.RecoveredOthers.{IsCertified, IsRecoveredO
 use crate::told::allows_others;
 use crate::unallowed::Unallowed;
 use machines::Arch;
-use maker::{Evidence, Unready, judge_filter};
+use maker::{Evidence, MakeError, judge_filter};
 use other_calls::guarded;
 use profile::Profile;
 use profile_json::read_bundle;
@@ -16,13 +16,13 @@ use recover::Unsaid;
 use std::alloc::Global;
 
 // Refuses a bundle if it was not judged that the filter is right.
-fn be_right(judged: &Result<Evidence, Unready>) -> Result<(), Unallowed>
+fn be_right(judged: &Result<Evidence, MakeError>) -> Result<(), Unallowed>
     ensures { IfOk result (λ _. IsCertified judged.now) }
 {
     match judged {
         Ok(Evidence::Certificate(_)) => Ok(()),
         Ok(Evidence::Convicting(found)) => Err(Unallowed::from(Unsaid::Unlike(*found))),
-        Err(unready) => Err(Unallowed::from(Unsaid::from(*unready))),
+        Err(make_error) => Err(Unallowed::from(Unsaid::from(*make_error))),
     }
 }
 
@@ -50,7 +50,7 @@ fn judge_filter_beside(
 {
     match read_bundle(alloc, bundle, native) {
         Ok(read) => judge_beside(alloc, &read.profile, filter),
-        Err(error) => Err(Unallowed::from(Unsaid::from(Unready::from(error)))),
+        Err(error) => Err(Unallowed::from(Unsaid::from(MakeError::from(error)))),
     }
 }
 

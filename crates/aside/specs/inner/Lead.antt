@@ -7,8 +7,8 @@ use Rattle.certify.specs.declared.error.CertifyError.TheVariants as maker
 use Rattle.maker.specs.declared.evidence.evidence.Conviction.{Conviction}
 use Rattle.maker.specs.declared.evidence.evidence.Evidence.{Evidence}
 use Rattle.maker.specs.declared.evidence.evidence.Evidence.TheVariants.{Convicting}
-use Rattle.maker.specs.declared.unready.Unready.{Unready}
-use Rattle.maker.specs.declared.unready.Unready.TheVariants.{Certify, OutOfMemory}
+use Rattle.maker.specs.declared.make_error.MakeError.{MakeError}
+use Rattle.maker.specs.declared.make_error.MakeError.TheVariants.{Certify, OutOfMemory}
 use Rattle.maker.specs.Certified.{AreJudged}
 use Rattle.profile.specs.Policy.{Policy}
 use Rattle.compare.specs.declared.behind_runc.stub.calls.Calls.{Calls}
@@ -21,13 +21,13 @@ abbrev pub AreTaken : Arch → List ℕ → List ℕ → Type 0
 AreTaken native bundle filter = (policy : Policy) × AreJudged native bundle filter policy
 
 -- the error tells that neither was found, or of memory
-abbrev pub IsUndecided : Unready → Type 0
+abbrev pub IsUndecided : MakeError → Type 0
 IsUndecided (Certify e) = e ≢ maker.OutOfMemory
 IsUndecided OutOfMemory = Unit {0}
 IsUndecided other = ⊥
 
 -- what was judged is a record of one of these calls, which may be left aside
-pub record Leads (family : Family) (leave : Leave) (judged : Result Evidence Unready) (calls : Calls) : Type 0 where
+pub record Leads (family : Family) (leave : Leave) (judged : Result Evidence MakeError) (calls : Calls) : Type 0 where
   pub may : MayBeAside family leave calls
   pub found : Conviction
   pub is : judged ≡ Ok (Convicting found)

@@ -15,7 +15,7 @@ use crate::behind_runc::behind::Behind;
 use crate::behind_runc::spared::spares;
 use crate::behind_runc::stub::is_answered;
 use call_record::{Word, words_are_a_record};
-use maker::{Conviction, Evidence, Unready, judge_filter, refuse, write_judged};
+use maker::{Conviction, Evidence, MakeError, judge_filter, refuse, write_judged};
 use profile::Profile;
 use profile_json::Document;
 use std::alloc::Global;
@@ -28,7 +28,7 @@ const ENOSYS: Word = Word(0x0005_0026);
 #[derive(Drop)]
 pub struct Judged {
     pub whole: bool,
-    pub evidence: Result<Evidence, Unready>,
+    pub evidence: Result<Evidence, MakeError>,
 }
 
 // The counterexample to the whole filter, of a record that is one to the rest. It is the same if the stub does not answer the record. Else
@@ -99,9 +99,9 @@ fn judge_rest(alloc: Global, profile: &Profile, filter: &[u8], behind: &Behind<'
             whole: false,
             evidence: Ok(Evidence::Certificate(certificate)),
         },
-        Err(unready) => Judged {
+        Err(make_error) => Judged {
             whole: false,
-            evidence: Err(unready),
+            evidence: Err(make_error),
         },
     }
 }
@@ -134,7 +134,7 @@ pub fn judge_behind(
         Ok(bundle) => judge_beside(alloc, &bundle.profile, filter, behind),
         Err(error) => Judged {
             whole: true,
-            evidence: Err(Unready::from(error)),
+            evidence: Err(MakeError::from(error)),
         },
     }
 }
@@ -153,7 +153,7 @@ pub fn write_behind<S: Sink>(
         → Tells S.held S.failures sink.old sink.new (words found.call) found.given found.said result }
 {
     match &judged.evidence {
-        Err(unready) => refuse(alloc, unready, sink),
+        Err(make_error) => refuse(alloc, make_error, sink),
         Ok(_) => write_judged(alloc, &judged.evidence, sink),
     }
 }

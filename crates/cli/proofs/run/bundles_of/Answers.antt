@@ -1,7 +1,7 @@
 use Rattle.std.proofs.Common.{◌≡◌, ◌+◌, ◌<◌, ◌≤◌, ◌++◌, ◌∙◌, Global, List, [], ◌∷◌, Vec, ap, arith, drop, length, length-append, map, subst}
 use Rattle.std.proofs.Common.{ℕ, sym, take}
 use Rattle.std.proofs.lemmas.List.{map-append, take_all}
-use Rattle.maker.specs.Exported.{IsUnready}
+use Rattle.maker.specs.Exported.{IsMakeError}
 use Rattle.cli.specs.Running.{InTurn, IsBundleOf}
 use Rattle.cli.proofs.TurnLaws.{cut_at, in_turn_on, of_ok, ready, taken_on}
 use Rattle.cli.proofs.run.bundles_of.Goals as goal
@@ -21,7 +21,7 @@ returns-in-Err-clause-err c = λ other.
       split = ap (map bytes_of) (cut_at texts i text lt c.index-texts-place.is) ∙ map-append bytes_of (take i texts)
           (text ∷ drop (i + 1) texts);
       ready = ready c.args.native 1 (map bytes_of (take i texts)) c.loop-place.list.items c.loop-place.invariant.each;
-      is = subst (λ t. IsUnready c.args.native t c.in-Err.unready) c.deref.ensures.value (c.in-Err.ensures.err other);
+      is = subst (λ t. IsMakeError c.args.native t c.in-Err.make_error) c.deref.ensures.value (c.in-Err.ensures.err other);
     }
 
 pub loop-place-preserved : goal.loop-place-preserved

@@ -35,7 +35,7 @@ returns g c =
     let texts = map (λ t. t.items) c.args.texts.now in
     let runs = refused_script g.I.Source.left g.I.Source.failures g.O.Sink.held g.O.Sink.failures c.args.input.now c.args.out.now
     c.refuse.new.sink
-    c.args.native texts c.in-Err.unready (Ok c.in_ok-refuse-in-Err.field-0) (Ok c.in_ok-refuse-in-Err.field-0)
+    c.args.native texts c.in-Err.make_error (Ok c.in_ok-refuse-in-Err.field-0) (Ok c.in_ok-refuse-in-Err.field-0)
     c.in-Err.ensures.err c.in_ok-refuse-in-Err.ensures refl in record {
       runs = runs;
       done = script_is_answered g.I.Source.left g.I.Source.failures g.O.Sink.held g.O.Sink.failures c.args.input.now c.args.input.now
@@ -50,7 +50,7 @@ returns-in_err-refuse-in-Err g c =
     let told = err_from_is_err_and c.from_residual-in_err-refuse-in-Err.result c.from_residual-in_err-refuse-in-Err.ensures.1 in
     let runs = refused_script g.I.Source.left g.I.Source.failures g.O.Sink.held g.O.Sink.failures c.args.input.now c.args.out.now
     c.refuse.new.sink
-    c.args.native texts c.in-Err.unready (Err c.in_err-refuse-in-Err.field-0.0) c.from_residual-in_err-refuse-in-Err.result
+    c.args.native texts c.in-Err.make_error (Err c.in_err-refuse-in-Err.field-0.0) c.from_residual-in_err-refuse-in-Err.result
     c.in-Err.ensures.err c.in_err-refuse-in-Err.ensures (told.1 ∙ ap Err told.2) in record {
       runs = runs;
       done = script_is_answered g.I.Source.left g.I.Source.failures g.O.Sink.held g.O.Sink.failures c.args.input.now c.args.input.now

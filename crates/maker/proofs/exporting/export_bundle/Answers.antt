@@ -8,7 +8,7 @@ use Rattle.maker.proofs.exporting.export_bundle.Goals as goal
 pub returns : goal.returns
 returns g c =
     let exports = refused g.S.Sink.held g.S.Sink.failures c.args.sink.now c.refuse.new.sink c.args.native c.args.bundle.now c.args.form
-    c.in-Err.unready c.refuse.result c.in-Err.ensures.err c.refuse.ensures in record {
+    c.in-Err.make_error c.refuse.result c.in-Err.ensures.err c.refuse.ensures in record {
       exports = exports;
       own = filter_is_written g.S.Sink.held g.S.Sink.failures c.args.sink.now c.refuse.new.sink c.args.native c.args.bundle.now
           c.args.form c.refuse.result exports;

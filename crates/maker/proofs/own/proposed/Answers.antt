@@ -5,7 +5,7 @@ use Rattle.kernel_check.specs.Accepted.{IsRefusal}
 use Rattle.kernel_check.proofs.RefusalLaws.{one}
 use Rattle.rule_compile.specs.declared.fault.CompileError.TheVariants as compiler
 use Rattle.certify.specs.declared.error.CertifyError.TheVariants as maker
-use Rattle.maker.specs.declared.unready.Unready.TheVariants.{Compile, Certify}
+use Rattle.maker.specs.declared.make_error.MakeError.TheVariants.{Compile, Certify}
 use Rattle.maker.proofs.PlainLaws.{certifies, seen, sizes, told_certify, told_compile, told_memory, unbroken}
 use Rattle.maker.proofs.own.proposed.Goals as goal
 

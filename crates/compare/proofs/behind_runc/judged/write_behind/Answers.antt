@@ -1,7 +1,7 @@
 use Rattle.std.proofs.Common.{subst}
 use Rattle.std.specs.Prelude.{Result}
 use Rattle.maker.specs.declared.evidence.evidence.Evidence.{Evidence}
-use Rattle.maker.specs.declared.unready.Unready.{Unready}
+use Rattle.maker.specs.declared.make_error.MakeError.{MakeError}
 use Rattle.compare.specs.Behind.{IsJudgedBehind}
 use Rattle.compare.proofs.WriteLaws.{of_error, of_judged}
 use Rattle.compare.proofs.behind_runc.judged.write_behind.Goals as goal
@@ -9,8 +9,8 @@ use Rattle.compare.proofs.behind_runc.judged.write_behind.Goals as goal
 pub returns-in-Err-clause-found : goal.returns-in-Err-clause-found
 returns-in-Err-clause-found g c = λ native bundle filter rest answered behind judged.
     of_error g.S.Sink.held g.S.Sink.failures c.args.sink.now c.refuse.new.sink native bundle filter rest answered c.refuse.result
-    c.in-Err.unready c.args.judged.now.whole
-    (subst (λ (j : Result Evidence Unready). IsJudgedBehind native bundle filter rest answered c.args.judged.now.whole j) c.in-Err.is judged)
+    c.in-Err.make_error c.args.judged.now.whole
+    (subst (λ (j : Result Evidence MakeError). IsJudgedBehind native bundle filter rest answered c.args.judged.now.whole j) c.in-Err.is judged)
     c.refuse.ensures
 
 pub returns-in-Ok-clause-found : goal.returns-in-Ok-clause-found

@@ -4,12 +4,12 @@ use Rattle.std.proofs.lemmas.Result.{err_from_is_err_and}
 use Rattle.cert_check.specs.declared.checked.Checked.{Checked}
 use Rattle.cert_check.specs.declared.fault.CheckError.TheVariants as error
 use Rattle.rule_compile.specs.Shape.{IsPlain}
-use Rattle.maker.specs.Exported.{IsUnready}
+use Rattle.maker.specs.Exported.{IsMakeError}
 use Rattle.maker.specs.declared.proposal.Proposal.{Proposal}
-use Rattle.maker.specs.declared.unready.Unready.{Unready}
-use Rattle.maker.specs.declared.unready.Unready.TheVariants.{Check, OutOfMemory}
+use Rattle.maker.specs.declared.make_error.MakeError.{MakeError}
+use Rattle.maker.specs.declared.make_error.MakeError.TheVariants.{Check, OutOfMemory}
 use Rattle.maker.proofs.PlainLaws.{only_memory, told_memory, unbroken_lent}
-use Rattle.maker.proofs.slot.from_own.Goals as goal
+use Rattle.maker.proofs.checked_bundle.from_own.Goals as goal
 
 pub returns-in_err-last-clause-never : goal.returns-in_err-last-clause-never
 returns-in_err-last-clause-never c = λ plain.
@@ -28,7 +28,7 @@ returns-in_err-last-clause-err c = λ native bundle means.
     c.in_default.not-OutOfMemory (c.in-Err.ensures.own (unbroken_lent c.args.profile.now own.filter.items c.deref.result.now
     own.certificate.items c.deref-2.result.now filter cert (c.in_ok-own.ensures.own plain))) in
     let told = err_from_is_err_and c.from_residual-in_err-last.result c.from_residual-in_err-last.ensures.1 in
-    subst (λ (r : Result Checked Unready). IfErr r (λ u. u ≢ OutOfMemory → IsUnready native bundle u)) (sym (told.1 ∙ ap Err told.2))
+    subst (λ (r : Result Checked MakeError). IfErr r (λ u. u ≢ OutOfMemory → IsMakeError native bundle u)) (sym (told.1 ∙ ap Err told.2))
     (c.in_err-last.ensures.err native bundle means not_plain)
 
 pub returns-in_err-answer-clause-never : goal.returns-in_err-answer-clause-never

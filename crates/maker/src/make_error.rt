@@ -4,7 +4,7 @@ ghost use Rattle.rule_compile.specs.declared.fault.CompileError.TheVariants as c
 ghost use Rattle.certify.specs.declared.error.CertifyError.TheVariants as maker;
 ghost use Rattle.cert_check.specs.declared.fault.CheckError.TheVariants as checker;
 ghost use Rattle.maker.specs.Exported.{IsToldAs, Refuses};
-ghost use Rattle.maker.specs.declared.unready.Unready.TheVariants.{Profile, Compile, Certify, Check};
+ghost use Rattle.maker.specs.declared.make_error.MakeError.TheVariants.{Profile, Compile, Certify, Check};
 
 use cert_check::CheckError;
 use certify::CertifyError;
@@ -17,7 +17,7 @@ use thiserror::Error;
 
 /// Why a bundle has no checked filter. Its text is the line that says so.
 #[derive(Clone, Copy, Debug, Error)]
-pub enum Unready {
+pub enum MakeError {
     /// The bundle is refused.
     Profile(ProfileError),
     /// No filter is compiled.
@@ -30,75 +30,79 @@ pub enum Unready {
     OutOfMemory,
 }
 
-impl fmt::Display for Unready {
+impl fmt::Display for MakeError {
     ghost use Rattle.std.specs.Prelude.{Some};
     ghost use Rattle.maker.specs.Exported.{text_of};
 
-    ghost output = { λ unready. Some (text_of unready) };
+    ghost output = { λ make_error. Some (text_of make_error) };
 
     fn fmt<W: fmt::Write>(&self, f: &mut fmt::Formatter<W>) -> fmt::Result {
         match *self {
-            Unready::Profile(error) => write!(f, "refused profile {error}"),
-            Unready::Compile(error) => write!(f, "refused compile {error}"),
-            Unready::Certify(error) => write!(f, "refused certify {error}"),
-            Unready::Check(error) => write!(f, "no {error}"),
-            Unready::OutOfMemory => write!(f, "out of memory"),
+            MakeError::Profile(error) => write!(f, "refused profile {error}"),
+            MakeError::Compile(error) => write!(f, "refused compile {error}"),
+            MakeError::Certify(error) => write!(f, "refused certify {error}"),
+            MakeError::Check(error) => write!(f, "no {error}"),
+            MakeError::OutOfMemory => write!(f, "out of memory"),
         }
     }
 }
 
-impl From<ProfileError> for Unready {
+impl From<ProfileError> for MakeError {
     ghost from_gives = { IsToldAs Profile refusal.OutOfMemory };
 
-    fn from(error: ProfileError) -> Unready {
+    fn from(error: ProfileError) -> MakeError {
         match error {
-            ProfileError::OutOfMemory => Unready::OutOfMemory,
-            _ => Unready::Profile(error),
+            ProfileError::OutOfMemory => MakeError::OutOfMemory,
+            _ => MakeError::Profile(error),
         }
     }
 }
 
-impl From<CompileError> for Unready {
+impl From<CompileError> for MakeError {
     ghost from_gives = { IsToldAs Compile compiler.OutOfMemory };
 
-    fn from(error: CompileError) -> Unready {
+    fn from(error: CompileError) -> MakeError {
         match error {
-            CompileError::OutOfMemory => Unready::OutOfMemory,
-            _ => Unready::Compile(error),
+            CompileError::OutOfMemory => MakeError::OutOfMemory,
+            _ => MakeError::Compile(error),
         }
     }
 }
 
-impl From<CertifyError> for Unready {
+impl From<CertifyError> for MakeError {
     ghost from_gives = { IsToldAs Certify maker.OutOfMemory };
 
-    fn from(error: CertifyError) -> Unready {
+    fn from(error: CertifyError) -> MakeError {
         match error {
-            CertifyError::OutOfMemory => Unready::OutOfMemory,
-            _ => Unready::Certify(error),
+            CertifyError::OutOfMemory => MakeError::OutOfMemory,
+            _ => MakeError::Certify(error),
         }
     }
 }
 
-impl From<CheckError> for Unready {
+impl From<CheckError> for MakeError {
     ghost from_gives = { IsToldAs Check checker.OutOfMemory };
 
-    fn from(error: CheckError) -> Unready {
+    fn from(error: CheckError) -> MakeError {
         match error {
-            CheckError::OutOfMemory => Unready::OutOfMemory,
-            _ => Unready::Check(error),
+            CheckError::OutOfMemory => MakeError::OutOfMemory,
+            _ => MakeError::Check(error),
         }
     }
 }
 
 /// Writes the line that says why there is no checked filter. The answer is false.
-pub fn refuse<S: Sink>(alloc: Global, unready: &Unready, sink: &mut S) -> Result<bool, WriteFault>
-    ensures { Refuses S.held S.failures sink.old sink.new unready.now result }
+pub fn refuse<S: Sink>(
+    alloc: Global,
+    make_error: &MakeError,
+    sink: &mut S,
+) -> Result<bool, WriteFault>
+    ensures { Refuses S.held S.failures sink.old sink.new make_error.now result }
 {
-    if let Unready::OutOfMemory = unready {
+    if let MakeError::OutOfMemory = make_error {
         return Err(WriteFault::OutOfMemory);
     }
-    let Ok(line) = format!(in alloc; "{unready}\n") else {
+    let Ok(line) = format!(in alloc; "{make_error}\n") else {
         return Err(WriteFault::OutOfMemory);
     };
     write_all(line.as_bytes(), sink)?;

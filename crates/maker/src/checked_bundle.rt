@@ -6,15 +6,15 @@ ghost use Rattle.cert_check.specs.declared.fault.CheckError.TheVariants as refus
 ghost use Rattle.cert_check.specs.Checked.{profile_of};
 ghost use Rattle.rule_compile.specs.Plan.{IsPlanOf};
 ghost use Rattle.rule_compile.specs.Shape.{IsPlain};
-ghost use Rattle.maker.specs.declared.unready.Unready.TheVariants.{OutOfMemory};
-ghost use Rattle.maker.specs.Exported.{IsCheckedOf, IsUnready};
+ghost use Rattle.maker.specs.declared.make_error.MakeError.TheVariants.{OutOfMemory};
+ghost use Rattle.maker.specs.Exported.{IsCheckedOf, IsMakeError};
 ghost use Rattle.maker.specs.Finding.{IsBundle};
 ghost use Rattle.maker.specs.inner.Proposed.{IsUnbroken};
 
+use crate::make_error::MakeError;
 use crate::own::{followed, proposed};
 use crate::proposal::Proposal;
 use crate::shorter::shorter;
-use crate::unready::Unready;
 use cert_check::{CheckError, Checked, check};
 use machines::Arch;
 use profile::Profile;
@@ -24,7 +24,7 @@ use std::alloc::Global;
 
 /// Holds what is made of one bundle, for as long as its checked filter is used, which is lent.
 #[derive(Drop)]
-pub struct Slot {
+pub struct CheckedBundle {
     profile: Option<Profile>,
     // What was proposed first, if something was.
     shorter: Option<Proposal>,
@@ -60,11 +60,11 @@ fn from_shorter<'a>(
     profile: &'a Profile,
     planned: &Planned,
     place: &'a mut Option<Proposal>,
-) -> Result<Option<Checked<'a>>, Unready>
+) -> Result<Option<Checked<'a>>, MakeError>
     ensures profile { IfOk result (λ found. IfSome found (λ checked. profile_of checked ≡ profile.now)) }
     ensures ok { (native : TheArch) (bundle : List ℕ) → IsBundle native bundle profile.now
         → IfOk result (λ found. IfSome found (IsCheckedOf native bundle)) }
-    ensures memory { IfErr result (λ unready. unready ≡ OutOfMemory) }
+    ensures memory { IfErr result (λ make_error. make_error ≡ OutOfMemory) }
 {
     let Some(proposal) = shorter(alloc, profile, planned)? else {
         return Ok(None);
@@ -72,7 +72,7 @@ fn from_shorter<'a>(
     let made: &'a Proposal = place.insert(proposal);
     match answer(alloc, profile, &made.filter, &made.certificate) {
         Ok(checked) => Ok(Some(checked)),
-        Err(CheckError::OutOfMemory) => Err(Unready::OutOfMemory),
+        Err(CheckError::OutOfMemory) => Err(MakeError::OutOfMemory),
         Err(_) => Ok(None),
     }
 }
@@ -85,13 +85,13 @@ fn from_own<'a>(
     planned: Planned,
     place: &'a mut Option<Proposal>,
     other: &'a mut Option<Vec<u8>>,
-) -> Result<Checked<'a>, Unready>
+) -> Result<Checked<'a>, MakeError>
     requires { IsPlanOf profile.now planned.insns.items }
     ensures profile { IfOk result (λ checked. profile_of checked ≡ profile.now) }
     ensures ok { (native : TheArch) (bundle : List ℕ) → IsBundle native bundle profile.now → IfOk result (IsCheckedOf native bundle) }
-    ensures never { IsPlain profile.now → IfErr result (λ unready. unready ≡ OutOfMemory) }
+    ensures never { IsPlain profile.now → IfErr result (λ make_error. make_error ≡ OutOfMemory) }
     ensures err { (native : TheArch) (bundle : List ℕ) → IsBundle native bundle profile.now
-        → IfErr result (λ unready. unready ≢ OutOfMemory → IsUnready native bundle unready) }
+        → IfErr result (λ make_error. make_error ≢ OutOfMemory → IsMakeError native bundle make_error) }
 {
     let own = proposed(alloc, profile, planned)?;
     let made: &'a Proposal = place.insert(own);
@@ -99,7 +99,7 @@ fn from_own<'a>(
         Ok(checked) => return Ok(checked),
         Err(error) => {
             if let CheckError::OutOfMemory = error {
-                return Err(Unready::OutOfMemory);
+                return Err(MakeError::OutOfMemory);
             }
         }
     }
@@ -115,27 +115,27 @@ fn checked_for<'a>(
     shorter: &'a mut Option<Proposal>,
     own: &'a mut Option<Proposal>,
     other: &'a mut Option<Vec<u8>>,
-) -> Result<Checked<'a>, Unready>
+) -> Result<Checked<'a>, MakeError>
     ensures profile { IfOk result (λ checked. profile_of checked ≡ profile.now) }
     ensures ok { (native : TheArch) (bundle : List ℕ) → IsBundle native bundle profile.now → IfOk result (IsCheckedOf native bundle) }
-    ensures never { IsPlain profile.now → IfErr result (λ unready. unready ≡ OutOfMemory) }
+    ensures never { IsPlain profile.now → IfErr result (λ make_error. make_error ≡ OutOfMemory) }
     ensures err { (native : TheArch) (bundle : List ℕ) → IsBundle native bundle profile.now
-        → IfErr result (λ unready. unready ≢ OutOfMemory → IsUnready native bundle unready) }
+        → IfErr result (λ make_error. make_error ≢ OutOfMemory → IsMakeError native bundle make_error) }
 {
     let Ok(planned) = plan(alloc, profile) else {
-        return Err(Unready::OutOfMemory);
+        return Err(MakeError::OutOfMemory);
     };
     match from_shorter(alloc, profile, &planned, shorter) {
         Ok(Some(checked)) => Ok(checked),
         Ok(None) => from_own(alloc, profile, planned, own, other),
-        Err(unready) => Err(unready),
+        Err(make_error) => Err(make_error),
     }
 }
 
-impl Slot {
+impl CheckedBundle {
     /// With nothing in it.
-    pub fn new() -> Slot {
-        Slot {
+    pub fn new() -> CheckedBundle {
+        CheckedBundle {
             profile: None,
             shorter: None,
             own: None,
@@ -150,9 +150,9 @@ impl Slot {
         alloc: Global,
         native: Arch,
         bundle: &[u8],
-    ) -> Result<Checked<'a>, Unready>
+    ) -> Result<Checked<'a>, MakeError>
         ensures ok { IfOk result (IsCheckedOf native bundle.now) }
-        ensures err { IfErr result (λ unready. unready ≢ OutOfMemory → IsUnready native bundle.now unready) }
+        ensures err { IfErr result (λ make_error. make_error ≢ OutOfMemory → IsMakeError native bundle.now make_error) }
     {
         let profile = read_bundle(alloc, bundle, native)?.profile;
         self.fill_for(alloc, profile)
@@ -163,15 +163,15 @@ impl Slot {
         &'a mut self,
         alloc: Global,
         profile: Profile,
-    ) -> Result<Checked<'a>, Unready>
+    ) -> Result<Checked<'a>, MakeError>
         ensures profile { IfOk result (λ checked. profile_of checked ≡ profile) }
         ensures ok { (native : TheArch) (bundle : List ℕ) → IsBundle native bundle profile → IfOk result (IsCheckedOf native bundle) }
         // Of a plain profile only memory is ever refused.
-        ensures never { IsPlain profile → IfErr result (λ unready. unready ≡ OutOfMemory) }
+        ensures never { IsPlain profile → IfErr result (λ make_error. make_error ≡ OutOfMemory) }
         ensures err { (native : TheArch) (bundle : List ℕ) → IsBundle native bundle profile
-            → IfErr result (λ unready. unready ≢ OutOfMemory → IsUnready native bundle unready) }
+            → IfErr result (λ make_error. make_error ≢ OutOfMemory → IsMakeError native bundle make_error) }
     {
-        let Slot {
+        let CheckedBundle {
             profile: place,
             shorter,
             own,

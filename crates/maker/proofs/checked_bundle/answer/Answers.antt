@@ -1,5 +1,5 @@
 use Rattle.maker.proofs.ExportLaws.{is_checked_if_yes}
-use Rattle.maker.proofs.slot.answer.Goals as goal
+use Rattle.maker.proofs.checked_bundle.answer.Goals as goal
 
 pub returns-clause-ok : goal.returns-clause-ok
 returns-clause-ok c = λ native bundle is.
