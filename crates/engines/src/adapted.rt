@@ -13,7 +13,7 @@ use crate::settings::Settings;
 use crate::words::Wanted;
 use machines::{Arch, Family};
 use profile_json::ProfileError;
-use section::{kind_of, line_of, remark_of};
+use section::{Kind, is_large, kind_of, line_of, remark_of};
 use serde_json::{Error, Value};
 use show::{Doubled, Trimmed, fault_of, without_unread};
 use std::alloc::{AllocError, Global};
@@ -147,9 +147,41 @@ fn adapt_trimmed(
     }
 }
 
+// What a text gives that is not read.
+fn too_large(alloc: Global) -> Result<Adapted, AllocError>
+    ensures { IfOk result (λ a. a.told.done ≡ false) }
+{
+    let why = String::from_str(alloc, line_of(Kind::Large).unwrap_or(""))?;
+    let told = refused_profile(alloc, ProfileError::Syntax)?;
+    Ok(refused(alloc, told, why))
+}
+
+// Whether a text has more bytes than are read. For the chosen lists each text is read.
+fn is_too_large(native: Arch, config: &[u8]) -> bool {
+    match native.family() {
+        Family::Chosen => false,
+        Family::Whole => is_large(config),
+    }
+}
+
+// What a text gives that is read.
+fn adapt_read(
+    alloc: Global,
+    native: Arch,
+    config: &[u8],
+    wanted: Wanted,
+) -> Result<Adapted, AllocError>
+    ensures { IfOk result (IsAdapted native wanted.choice) }
+{
+    match without_unread(alloc, config, READ)? {
+        Some(trimmed) => adapt_trimmed(alloc, native, &trimmed, wanted),
+        None => adapt_text(alloc, native, config, wanted),
+    }
+}
+
 /// Makes a bundle, which is read for a native machine, of an engine's configuration, its own profile, a section by itself or a
 /// Kubernetes object. Where a change widens the profile, none is made unless it may. Entries that say unlike things of one record
-/// are settled by the choice that is asked for, and refused where none is.
+/// are settled by the choice that is asked for, and refused where none is. A text that is too large is refused.
 pub fn adapt(
     alloc: Global,
     native: Arch,
@@ -158,8 +190,8 @@ pub fn adapt(
 ) -> Result<Adapted, AllocError>
     ensures { IfOk result (IsAdapted native wanted.now.choice) }
 {
-    match without_unread(alloc, config, READ)? {
-        Some(trimmed) => adapt_trimmed(alloc, native, &trimmed, *wanted),
-        None => adapt_text(alloc, native, config, *wanted),
+    if is_too_large(native, config) {
+        return too_large(alloc);
     }
+    adapt_read(alloc, native, config, *wanted)
 }

@@ -7,7 +7,7 @@ use Rattle.std.proofs.lemmas.List.{drop_more}
 use Rattle.json.specs.Json.{Json}
 use Rattle.json.specs.Value.{value_view}
 use Rattle.json.specs.declared.value.Value.{Value}
-use Rattle.section.specs.Texts.{IsKind, IsPlainKind}
+use Rattle.section.specs.Texts.{IsPlainKind, IsReadKind}
 use Rattle.section.specs.Unlike.{AreLinesOf, count_alike, count_same, other_case, stands_twice, taken_line}
 use Rattle.section.specs.Unread.{line}
 use Rattle.section.specs.declared.kinds.Kind.{Kind}
@@ -70,9 +70,9 @@ some_lines : (lines : List ℕ) → (length lines == 0) ≡ false → lines ≢ 
 some_lines lines h none = absurd (let zero : (length lines == 0) ≡ true = ap (λ (l : List ℕ). length l == 0) none in cc)
 
 pub alike_kind : {E : Type 0} (bytes lines : List ℕ) → AreLinesOf bytes lines → (length lines == 0) ≡ true → (r : Result Kind E)
-    → IfOk r (IsPlainKind bytes) → IfOk r (IsKind bytes)
+    → IfOk r (IsPlainKind bytes) → IfOk r (IsReadKind bytes)
 alike_kind bytes lines are none (Ok kind) h = inl (subst (AreLinesOf bytes) (no_lines lines none) are, h)
 alike_kind bytes lines are none (Err e) h = tt
 
-pub unlike_kind : (bytes lines : List ℕ) → AreLinesOf bytes lines → (length lines == 0) ≡ false → IsKind bytes Unlike
+pub unlike_kind : (bytes lines : List ℕ) → AreLinesOf bytes lines → (length lines == 0) ≡ false → IsReadKind bytes Unlike
 unlike_kind bytes lines are some = inr ((lines, are, some_lines lines some), refl)

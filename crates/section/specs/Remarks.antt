@@ -6,7 +6,7 @@ use Rattle.machines.specs.declared.arch.Family.TheVariants.{Chosen, Whole}
 use Rattle.machines.specs.Arch.{family_of}
 use Rattle.section.specs.Texts.{IsKind}
 use Rattle.section.specs.declared.kinds.Kind.{Kind}
-use Rattle.section.specs.declared.kinds.Kind.TheVariants.{Bundle, Section, EnginesOwn, Kubernetes, KubernetesList, Yaml, NoConfig, Unlike}
+use Rattle.section.specs.declared.kinds.Kind.TheVariants.{Bundle, Section, EnginesOwn, Kubernetes, KubernetesList, Yaml, NoConfig, Unlike, Large}
 
 -- the line that says what a text of a kind is, if it is neither a bundle nor a section
 abbrev pub line_of : Kind → Option (List ℕ)
@@ -18,6 +18,7 @@ line_of KubernetesList = Some (codes "ccell: this is a list of objects and no co
 line_of Yaml = Some (codes "ccell: this is YAML, which is not read: kubectl get -o json writes the same object as JSON\n")
 line_of NoConfig = Some (codes "ccell: this is no config and no profile: none of linux, ociVersion and defaultAction stands at its top\n")
 line_of Unlike = Some (codes "ccell: runtimes and engines do not take this text alike, so it is taken as none\n")
+line_of Large = Some (codes "ccell: this text has more than 4194304 bytes, so it is not read\n")
 
 abbrev pub IsRemarkOf : Family → List ℕ → Option (List ℕ) → Type 0
 IsRemarkOf Chosen bytes line = line ≡ None

@@ -1,6 +1,6 @@
 -- What readers of a text do not take alike: runtimes and engines. Readers in Go pass over upper and lower case, take U+017F for s and U+212A for k,
 -- and merge what stands twice. Readers in C end a key at U+0000, and take the first of two.
-use Rattle.std.specs.Prelude.{ℕ, ◌≡◌, ◌+◌, ◌==◌, ◌&&◌, ◌⊎◌, Bool, true, false, List, [], ◌∷◌, ◌++◌, codes, count_by, if◌then◌else◌, nat_lt}
+use Rattle.std.specs.Prelude.{ℕ, ◌≡◌, ◌<◌, ◌≤◌, ◌+◌, ◌==◌, ◌&&◌, ◌⊎◌, Bool, true, false, List, [], ◌∷◌, ◌++◌, codes, count_by, if◌then◌else◌, length, nat_lt}
 use Rattle.std.specs.Fmt.{decimal}
 use Rattle.std.specs.List.{flat_map, list_all}
 use Rattle.std.specs.Str.{bytes_eq, str_eq_ignore_ascii_case}
@@ -143,11 +143,23 @@ abbrev pub AreLinesOf : List ℕ → List ℕ → Type 0
 AreLinesOf bytes lines =
     ((j : Json) × IsJson bytes j × (lines ≡ text_lines j)) ⊎ (((j : Json) → ¬ IsJson bytes j) × (lines ≡ []))
 
+-- the most bytes of a text that is read
+abbrev pub most_bytes : ℕ
+most_bytes = 4194304
+
+-- a text has more, or it has not
+abbrev pub IsLarge : List ℕ → Type 0
+IsLarge bytes = most_bytes < length bytes
+
+abbrev pub IsReadable : List ℕ → Type 0
+IsReadable bytes = length bytes ≤ most_bytes
+
 abbrev pub AreUnlikeOf : Family → List ℕ → List ℕ → Type 0
 AreUnlikeOf Chosen bytes lines = lines ≡ []
-AreUnlikeOf Whole bytes lines = AreLinesOf bytes lines
+AreUnlikeOf Whole bytes lines = (IsLarge bytes × (lines ≡ [])) ⊎ (IsReadable bytes × AreLinesOf bytes lines)
 
--- Where all calls of Linux are meant, these lines tell what readers do not take alike in a text. Where the chosen lists are, there are none.
+-- Where all calls of Linux are meant, these lines tell what readers do not take alike in a text that is read. Where the chosen lists are,
+-- there are none.
 abbrev pub AreUnlike : Arch → List ℕ → List ℕ → Type 0
 AreUnlike native bytes lines = AreUnlikeOf (family_of native) bytes lines
 

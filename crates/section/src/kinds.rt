@@ -26,6 +26,8 @@ pub enum Kind {
     NoConfig,
     /// A text that runtimes and engines do not take alike.
     Unlike,
+    /// A text of more bytes than are read.
+    Large,
 }
 
 // Whether an object has a member.

@@ -18,6 +18,6 @@ pub use kinds::{Kind, kind_of};
 pub use reading::{bundle_text, kind_of_text, put_in_bundle};
 pub use remarks::{line_of, remark_of};
 pub use taken::{Taken, take};
-pub use unlike::unlike_of;
+pub use unlike::{MOST_BYTES, is_large, unlike_of};
 pub use unread::{ARGUMENT_KEYS, ENTRY_KEYS, SECTION_KEYS, unread_of};
 pub use writing::{keeps_meaning, section_of};

@@ -2,10 +2,10 @@
 ghost use Rattle.std.specs.Prelude.{◌≡◌, IfOk};
 ghost use Rattle.machines.specs.declared.arch.Family.TheVariants.{Whole};
 ghost use Rattle.section.specs.Texts as spec;
-ghost use Rattle.section.specs.Texts.{IsBundleText, IsKind, IsPlainKind, in_bundle};
+ghost use Rattle.section.specs.Texts.{IsBundleText, IsKind, IsPlainKind, IsReadKind, in_bundle};
 
 use crate::kinds::{Kind, kind_of, kind_of_other_text};
-use crate::unlike::lines_of;
+use crate::unlike::{is_large, lines_of};
 use machines::{Arch, Family};
 use serde_json::Value;
 use std::alloc::{AllocError, Global};
@@ -25,15 +25,25 @@ fn kind_of_alike(alloc: Global, bytes: &[u8]) -> Result<Kind, AllocError>
     }
 }
 
-/// What stands in a file of these bytes.
-pub fn kind_of_text(alloc: Global, bytes: &[u8]) -> Result<Kind, AllocError>
-    ensures { IfOk result (IsKind bytes.now) }
+// What a text is that is read.
+fn kind_of_read(alloc: Global, bytes: &[u8]) -> Result<Kind, AllocError>
+    ensures { IfOk result (IsReadKind bytes.now) }
 {
     let unlike = lines_of(alloc, bytes)?;
     if unlike.is_empty() {
         return kind_of_alike(alloc, bytes);
     }
     Ok(Kind::Unlike)
+}
+
+/// What stands in a file of these bytes.
+pub fn kind_of_text(alloc: Global, bytes: &[u8]) -> Result<Kind, AllocError>
+    ensures { IfOk result (IsKind bytes.now) }
+{
+    if is_large(bytes) {
+        return Ok(Kind::Large);
+    }
+    kind_of_read(alloc, bytes)
 }
 
 const HEAD: &str = "{\"ociVersion\":\"1.0.2\",\"linux\":{\"seccomp\":";
@@ -64,6 +74,7 @@ fn taken_as(alloc: Global, kind: Kind, bytes: Vec<u8>) -> Result<Vec<u8>, AllocE
         Kind::Yaml => Ok(bytes),
         Kind::NoConfig => Ok(bytes),
         Kind::Unlike => Ok(Vec::new(alloc)),
+        Kind::Large => Ok(Vec::new(alloc)),
     }
 }
 
@@ -76,7 +87,8 @@ fn bundle_of(alloc: Global, bytes: Vec<u8>) -> Result<Vec<u8>, AllocError>
 }
 
 /// The bundle of a file of these bytes, which is read for a native machine. It is the bytes themselves, or the bundle in
-/// which the section stands that they are. A text that readers do not take alike is taken as none: the bundle is empty. For the machines of the chosen lists a section is none.
+/// which the section stands that they are. A text that is too large, or that
+/// readers do not take alike, is taken as none: the bundle is empty. For the machines of the chosen lists a section is none.
 pub fn bundle_text(alloc: Global, native: Arch, bytes: Vec<u8>) -> Result<Vec<u8>, AllocError>
     ensures { IfOk result (λ text. IsBundleText native bytes.items text.items) }
 {

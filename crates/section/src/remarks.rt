@@ -33,6 +33,9 @@ pub fn line_of(kind: Kind) -> Option<&'static str>
         Kind::Unlike => Some(
             "ccell: runtimes and engines do not take this text alike, so it is taken as none\n",
         ),
+        Kind::Large => {
+            Some("ccell: this text has more than 4194304 bytes, so it is not read\n")
+        }
     }
 }
 

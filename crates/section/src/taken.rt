@@ -4,11 +4,11 @@ ghost use Rattle.machines.specs.declared.arch.Family.TheVariants.{Whole};
 ghost use Rattle.machines.specs.Arch.{family_of};
 ghost use Rattle.section.specs.Taken.{IsTaken};
 ghost use Rattle.section.specs.Texts.{IsPlainKind, bundle_of};
-ghost use Rattle.section.specs.Unlike.{AreLinesOf};
+ghost use Rattle.section.specs.Unlike.{AreLinesOf, IsReadable};
 
 use crate::kinds::{Kind, kind_of, kind_of_other_text};
 use crate::reading::put_in_bundle;
-use crate::unlike::lines_of;
+use crate::unlike::{is_large, lines_of};
 use machines::{Arch, Family};
 use profile_json::{Document, ProfileError};
 use std::alloc::{AllocError, Global};
@@ -51,6 +51,7 @@ fn taken_as(alloc: Global, kind: Kind, document: Document) -> Result<Document, A
         Kind::Yaml => Ok(document),
         Kind::NoConfig => Ok(document),
         Kind::Unlike => Ok(Document::new(alloc, Vec::new(alloc), document.native())),
+        Kind::Large => Ok(Document::new(alloc, Vec::new(alloc), document.native())),
     }
 }
 
@@ -62,6 +63,7 @@ fn take_alike(
     unlike: Vec<u8>,
 ) -> Result<Taken, AllocError>
     requires family { family_of native ≡ Whole }
+    requires small { IsReadable bytes.items }
     requires alike { unlike.items ≡ [] }
     requires lines { AreLinesOf bytes.items unlike.items }
     ensures { IfOk result (IsTaken native bytes.items) }
@@ -81,6 +83,23 @@ fn take_whole(alloc: Global, native: Arch, bytes: Vec<u8>) -> Result<Taken, Allo
     requires { family_of native ≡ Whole }
     ensures { IfOk result (IsTaken native bytes.items) }
 {
+    if is_large(&bytes) {
+        let document = Document::new(alloc, Vec::new(alloc), native);
+        return Ok(Taken {
+            kind: Kind::Large,
+            unlike: Vec::new(alloc),
+            document,
+        });
+    }
+    take_read(alloc, native, bytes)
+}
+
+// The same of one that is not too large.
+fn take_read(alloc: Global, native: Arch, bytes: Vec<u8>) -> Result<Taken, AllocError>
+    requires family { family_of native ≡ Whole }
+    requires small { IsReadable bytes.items }
+    ensures { IfOk result (IsTaken native bytes.items) }
+{
     let unlike = lines_of(alloc, &bytes)?;
     if unlike.is_empty() {
         return take_alike(alloc, native, bytes, unlike);
@@ -93,8 +112,8 @@ fn take_whole(alloc: Global, native: Arch, bytes: Vec<u8>) -> Result<Taken, Allo
 }
 
 /// Reads a file as a bundle for a native machine. The bundle is the bytes themselves, or the bundle in which the section stands that they
-/// are. A text that readers do not take alike is taken as none: the bundle is empty. For the machines of the chosen lists each file is
-/// taken as a bundle.
+/// are. A text that is too large, or that readers do not take alike, is taken as none: the bundle is empty. For the machines of the chosen
+/// lists each file is taken as a bundle.
 pub fn take(alloc: Global, native: Arch, bytes: Vec<u8>) -> Result<Taken, AllocError>
     ensures { IfOk result (IsTaken native bytes.items) }
 {

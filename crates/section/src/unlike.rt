@@ -1,5 +1,6 @@
 //! What runtimes and engines do not take alike in a text: keys that stand twice or otherwise, and a section beside `linux`.
-ghost use Rattle.std.specs.Prelude.{◌≡◌, ◌++◌, IfOk, count_by, map, string_bytes};
+ghost use Rattle.std.specs.Prelude.{◌≡◌, ◌↔◌, ◌++◌, IfOk, IsTrue, count_by, map, string_bytes};
+ghost use Rattle.machines.specs.declared.arch.Family.TheVariants.{Whole};
 ghost use Rattle.std.specs.Str.{bytes_eq, str_eq_ignore_ascii_case};
 ghost use Rattle.json.specs.Value.{value_view};
 ghost use Rattle.section.specs.Members as members;
@@ -383,13 +384,33 @@ pub(crate) fn lines_of(alloc: Global, bytes: &[u8]) -> Result<Vec<u8>, AllocErro
     }
 }
 
+/// The most bytes of a text that is read.
+pub const MOST_BYTES: usize = 4_194_304;
+
+/// Whether a text has more bytes than are read.
+pub fn is_large(bytes: &[u8]) -> bool
+    ensures { IsTrue result ↔ spec.IsLarge bytes.now }
+{
+    bytes.len() > MOST_BYTES
+}
+
+// The lines of a text, if it is read.
+fn lines_if_read(alloc: Global, bytes: &[u8]) -> Result<Vec<u8>, AllocError>
+    ensures { IfOk result (λ lines. spec.AreUnlikeOf Whole bytes.now lines.items) }
+{
+    if is_large(bytes) {
+        return Ok(Vec::new(alloc));
+    }
+    lines_of(alloc, bytes)
+}
+
 /// A line for each place at which runtimes and engines do not take a text alike. A text without one is taken alike by all that take
-/// it. For the machines of the chosen lists no lines are told.
+/// it. Of a text that is too large no lines are told, and for the machines of the chosen lists of none.
 pub fn unlike_of(alloc: Global, native: Arch, bytes: &[u8]) -> Result<Vec<u8>, AllocError>
     ensures { IfOk result (λ lines. spec.AreUnlike native bytes.now lines.items) }
 {
     match native.family() {
         Family::Chosen => Ok(Vec::new(alloc)),
-        Family::Whole => lines_of(alloc, bytes),
+        Family::Whole => lines_if_read(alloc, bytes),
     }
 }

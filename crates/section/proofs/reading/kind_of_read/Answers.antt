@@ -1,6 +1,6 @@
 use Rattle.std.proofs.Common.{◌≡◌, ◌==◌, length, true, false, rules}
 use Rattle.section.proofs.UnlikeLaws.{alike_kind, unlike_kind}
-use Rattle.section.proofs.reading.kind_of_text.Goals as goal
+use Rattle.section.proofs.reading.kind_of_read.Goals as goal
 
 pub returns-then-is_empty : goal.returns-then-is_empty
 returns-then-is_empty c =
