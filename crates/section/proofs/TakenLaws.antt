@@ -1,15 +1,22 @@
 -- What a file is taken as, by its text.
 use Rattle.std.proofs.Common.{◌≡◌, ◌≢◌, ℕ, List, [], inl, inr, refl, subst, sym}
+use Rattle.std.specs.Prelude.{IfOk, Result, Ok, Err}
 use Rattle.machines.specs.declared.arch.Arch.{Arch}
 use Rattle.machines.specs.declared.arch.Family.{Family}
 use Rattle.machines.specs.declared.arch.Family.TheVariants.{Whole}
 use Rattle.machines.specs.Arch.{family_of}
 use Rattle.section.specs.Remarks.{IsRemarkOf, line_of}
 use Rattle.section.specs.Taken.{IsTaken}
-use Rattle.section.specs.Texts.{IsKind, IsPlainKind, IsTakenAs, bundle_of}
+use Rattle.section.specs.Texts.{IsKind, IsPlainKind, IsReadKind, IsTakenAs, bundle_of}
 use Rattle.section.specs.Unlike.{AreLinesOf, AreUnlikeOf, IsLarge, IsReadable}
+use Rattle.section.specs.declared.kinds.Kind.{Kind}
 use Rattle.section.specs.declared.kinds.Kind.TheVariants.{Large, Unlike}
 use Rattle.section.specs.declared.taken.Taken.{Taken}
+
+-- a text that is read has the kind that it is read as
+pub readable_kind : {E : Type 0} (bytes : List ℕ) (r : Result Kind E) → IsReadable bytes → IfOk r (IsReadKind bytes) → IfOk r (IsKind bytes)
+readable_kind bytes (Ok kind) small is = inr (small, is)
+readable_kind bytes (Err e) small is = is
 
 module _ (native : Arch) (bytes : List ℕ) (taken : Taken) (whole : family_of native ≡ Whole) (same : taken.document.native ≡ native)
   where

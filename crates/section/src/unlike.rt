@@ -1,5 +1,5 @@
 //! What runtimes and engines do not take alike in a text: keys that stand twice or otherwise, and a section beside `linux`.
-ghost use Rattle.std.specs.Prelude.{◌≡◌, ◌↔◌, ◌++◌, IfOk, IsTrue, count_by, map, string_bytes};
+ghost use Rattle.std.specs.Prelude.{◌≡◌, ◌++◌, IfOk, count_by, false, map, string_bytes, true};
 ghost use Rattle.machines.specs.declared.arch.Family.TheVariants.{Whole};
 ghost use Rattle.std.specs.Str.{bytes_eq, str_eq_ignore_ascii_case};
 ghost use Rattle.json.specs.Value.{value_view};
@@ -389,7 +389,8 @@ pub const MOST_BYTES: usize = 4_194_304;
 
 /// Whether a text has more bytes than are read.
 pub fn is_large(bytes: &[u8]) -> bool
-    ensures { IsTrue result ↔ spec.IsLarge bytes.now }
+    ensures large { result ≡ true → spec.IsLarge bytes.now }
+    ensures small { result ≡ false → spec.IsReadable bytes.now }
 {
     bytes.len() > MOST_BYTES
 }

@@ -22,7 +22,6 @@ fn is_unread_text(native: Arch, line: &str) -> bool
 }
 
 // Whether a line is not read.
-#[tactic(auto, unfolding(crate::specs::Unread::is_unread))]
 fn is_unread(native: Arch, line: &[u8]) -> bool
     ensures { result ≡ spec.is_unread native line.now }
 {
