@@ -110,8 +110,7 @@ fn put_pair(
     steps: &mut Steps,
 ) -> Result<(), AllocError> {
     let (first, second) = pair;
-    let (Some(nr), Some(other)) = (call_number(arch, first), call_number(arch, second), steps)
-    else {
+    let (Some(nr), Some(other)) = (call_number(arch, first), call_number(arch, second)) else {
         return Ok(());
     };
     let Some(in_part) = passed(alloc, profile, arch, nr, other, steps)? else {
