@@ -3,3 +3,4 @@ pub mod Together
 pub mod Combined
 pub mod OnCall
 pub mod Unjudged
+pub mod inner

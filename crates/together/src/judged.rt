@@ -1,7 +1,5 @@
 //! Whether a profile says of each call record what several say together.
 ghost use Rattle.std.specs.Prelude.{◌≡◌, ℕ, true, IfOk, IfErr, IfNone, IfSome};
-ghost use Rattle.call_record.specs.Record.{words};
-ghost use Rattle.call_record.specs.Words.{words_from};
 ghost use Rattle.differ.specs.Named.{is_named};
 ghost use Rattle.together.specs.Together.{IsUnlike, SaysTogether};
 ghost use Rattle.together.specs.OnCall.{AgreesOnCall};
@@ -10,10 +8,11 @@ ghost use Rattle.together.specs.declared.judged.Unsettled.TheVariants.{OutOfMemo
 
 use crate::calls::named_calls;
 use crate::samples::samples_of;
-use crate::unlike::{Unlike, unlike_on};
+use crate::unlike::{Unlike, record_of, unlike_on};
+use crate::walked::{Walked, walk_through};
 use crate::way::Way;
-use call_record::{Record, words_are_a_record};
-use differ::{Call, Unlisted, rest_of};
+use call_record::words_are_a_record;
+use differ::{Call, Steps, Unlisted, all_steps, rest_of};
 use profile::Profile;
 use std::alloc::{AllocError, AllocFailed, Global};
 
@@ -42,20 +41,8 @@ impl<T: Drop> From<AllocFailed<T>> for Unsettled {
     }
 }
 
-// The call with these arguments.
-fn record_of(call: Call, args: [u64; 6]) -> Record
-    ensures { words result ≡ words_from call.nr call.token 0 args }
-{
-    Record {
-        nr: call.nr,
-        arch: call.token,
-        ip: 0,
-        args,
-    }
-}
-
-// A record of a call on which the verdicts are unlike.
-fn unlike_in(
+// A record of a call on which the verdicts are unlike, among those that stand for all others.
+fn unlike_among(
     alloc: Global,
     way: Way,
     profiles: &[Profile],
@@ -81,6 +68,26 @@ fn unlike_in(
     Ok(None)
 }
 
+// A record of a call on which the verdicts are unlike.
+fn unlike_in(
+    alloc: Global,
+    way: Way,
+    profiles: &[Profile],
+    joined: &Profile,
+    call: &Call,
+    steps: &mut Steps,
+) -> Result<Option<Unlike>, Unsettled>
+    ensures none { IfOk result (λ found. IfNone found (AgreesOnCall way profiles.now joined.now call.now.token call.now.nr)) }
+    ensures some { IfOk result (λ found. IfSome found (IsUnlike way profiles.now joined.now)) }
+    ensures unsettled { IfErr result (IsUnsettled profiles.now joined.now) }
+{
+    match walk_through(alloc, way, profiles, joined, call, steps)? {
+        Walked::Agrees => Ok(None),
+        Walked::Unlike(found) => Ok(Some(found)),
+        Walked::Unknown => unlike_among(alloc, way, profiles, joined, call),
+    }
+}
+
 // A record of one of these calls on which the verdicts are unlike.
 fn unlike_in_any(
     alloc: Global,
@@ -88,6 +95,7 @@ fn unlike_in_any(
     profiles: &[Profile],
     joined: &Profile,
     calls: &[Call],
+    steps: &mut Steps,
 ) -> Result<Option<Unlike>, Unsettled>
     ensures none { (token nr : ℕ) → is_named calls.now token nr ≡ true
         → IfOk result (λ found. IfNone found (AgreesOnCall way profiles.now joined.now token nr)) }
@@ -95,7 +103,7 @@ fn unlike_in_any(
     ensures unsettled { IfErr result (IsUnsettled profiles.now joined.now) }
 {
     for call in calls {
-        if let Some(found) = unlike_in(alloc, way, profiles, joined, call)? {
+        if let Some(found) = unlike_in(alloc, way, profiles, joined, call, steps)? {
             return Ok(Some(found));
         }
     }
@@ -117,13 +125,14 @@ pub fn judge(
     ensures some { IfOk result (λ found. IfSome found (IsUnlike way profiles.now joined.now)) }
     ensures unsettled { IfErr result (IsUnsettled profiles.now joined.now) }
 {
+    let mut steps = all_steps();
     let named = named_calls(alloc, profiles, joined)?;
     let rest = rest_of(alloc, &named)?;
-    if let Some(found) = unlike_in_any(alloc, way, profiles, joined, &named)? {
+    if let Some(found) = unlike_in_any(alloc, way, profiles, joined, &named, &mut steps)? {
         return Ok(Some(found));
     }
-    if let Some(found) = unlike_in_any(alloc, way, profiles, joined, &rest)? {
+    if let Some(found) = unlike_in_any(alloc, way, profiles, joined, &rest, &mut steps)? {
         return Ok(Some(found));
     }
-    unlike_in(alloc, way, profiles, joined, &FOREIGN)
+    unlike_in(alloc, way, profiles, joined, &FOREIGN, &mut steps)
 }

@@ -4,8 +4,10 @@
 mod bundles;
 mod calls;
 mod judged;
+mod product;
 mod samples;
 mod unlike;
+mod walked;
 mod way;
 
 pub use bundles::{Unjudged, if_together, profiles_of};

@@ -1,12 +1,14 @@
 //! A record on which a profile says another verdict than several do together.
 ghost use Rattle.std.specs.Prelude.{◌≡◌, IfOk, IfNone, IfSome};
 ghost use Rattle.call_record.specs.Record.{words};
+ghost use Rattle.call_record.specs.Words.{words_from};
 ghost use Rattle.profile.specs.Said.{said};
 ghost use Rattle.together.specs.Together.{IsUnlike, each_said};
 ghost use Rattle.together.specs.OnCall.{AgreesOn};
 
 use crate::way::{Way, word_of};
 use call_record::{Record, Word, words_are_a_record};
+use differ::Call;
 use profile::{Profile, each_record_is_said_one_verdict};
 use std::alloc::{AllocError, Global};
 
@@ -37,6 +39,18 @@ fn each_said(alloc: Global, profiles: &[Profile], call: &Record) -> Result<Vec<W
         list.push(said(profile, call))?;
     }
     Ok(list)
+}
+
+/// The call with these arguments.
+pub(crate) fn record_of(call: Call, args: [u64; 6]) -> Record
+    ensures { words result ≡ words_from call.nr call.token 0 args }
+{
+    Record {
+        nr: call.nr,
+        arch: call.token,
+        ip: 0,
+        args,
+    }
 }
 
 /// The record with both verdicts, if a profile says another one than counts of those that several say.

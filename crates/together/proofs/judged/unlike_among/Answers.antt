@@ -5,7 +5,7 @@ use Rattle.call_record.specs.Words.{IsRecord}
 use Rattle.differ.proofs.WalkLaws.{not_some}
 use Rattle.together.specs.OnCall.{AgreesAt, AgreesOn, AreSamples}
 use Rattle.together.proofs.SampleLaws.{by_samples}
-use Rattle.together.proofs.judged.unlike_in.Goals as goal
+use Rattle.together.proofs.judged.unlike_among.Goals as goal
 
 pub loop-args-preserved : goal.loop-args-preserved
 loop-args-preserved c =
