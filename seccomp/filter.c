@@ -187,7 +187,8 @@ static void give_up(struct filter *filter) {
     end_transactions(filter, 0);
     filter->mark = 0;
     free(filter->rules);
-    free(filter->latest);
+    free(filter->calls);
+    free(filter->conditions);
     free(filter->bytes);
     free(filter);
 }
@@ -249,6 +250,8 @@ API int seccomp_arch_remove(scmp_filter_ctx ctx, uint32_t token) {
     if (machine < 0) return done(filter, -EINVAL);
     if (!(filter->now.machines >> machine & 1)) return done(filter, -EEXIST);
     if (keep_machines(filter)) return done(filter, -ENOMEM);
+    for (size_t i = 0; i < filter->now.count; i++)
+        if (filter->rules[i].is_open) find_lost(filter, filter->rules[i].call, filter->rules[i].number);
     filter->now.machines &= ~(1u << machine);
     for (size_t i = 0; i < filter->now.count; i++) filter->rules[i].machines &= ~(1u << machine); /* its rules go with it */
     filter->length = 0;

@@ -49,8 +49,15 @@ struct rule {
     struct ccell_condition conditions[ARGUMENTS]; /* in the order of arguments */
     uint32_t left_out; /* machines on which libseccomp leaves it out of socketcall or ipc: `judge_in_ways` */
     uint32_t lost, settles; /* machines of `machines_that_lose` and of `machines_that_settle` */
-    size_t before; /* the place of the last rule before it that has its slot, counted from 1 */
+    bool is_open;           /* `lost` is not known yet: all rules of the call had one action */
+    bool were_unlike, had_whole; /* what its call had before it: `struct of_call` */
+    size_t before;          /* the place of the last rule before it of its call, counted from 1 */
+    size_t alike;           /* the same of those that have its slot in `conditions` */
 };
+
+/* The rules of a call: the place of the last one, counted from 1, or 0; whether they have several actions; and whether one has no
+ * conditions. */
+struct of_call { bool is_taken, are_unlike, has_whole; int call, number; size_t last; };
 
 struct state { uint32_t attributes[ATTRIBUTES], machines; size_t count; };
 
@@ -62,8 +69,10 @@ struct filter {
     unsigned nested;
     uint32_t *kept[MOST_NESTED]; /* of a transaction: the machines of each rule before it, if one was taken away since */
     struct rule *rules;
-    size_t *latest; /* of each slot the place of its last rule, counted from 1 */
-    size_t room;    /* of both: 0 or a power of two */
+    size_t room; /* for rules, and for calls that have or had one: 0 or a power of two */
+    struct of_call *calls; /* twice as many slots, each taken by a call or free */
+    size_t called;         /* how many are taken */
+    size_t *conditions;    /* of each slot the place of its last rule with the same conditions, counted from 1 */
     uint8_t *bytes; /* CCELL_MOST_BYTES, once a filter was made */
     size_t length;  /* 0: none is made of what stands here now */
     bool notifies;  /* SCMP_ACT_NOTIFY was its default or a rule's, so that it is loaded with a listener */
@@ -93,6 +102,11 @@ int copy_rules(struct filter *filter, const struct filter *from);
 /* The place, counted from 1, of the last rule for a call before a place that is counted so, or of its last one of all where that is 0;
  * 0 where there is none. */
 size_t rule_before(const struct filter *filter, int call, int number, size_t place);
+/* The place, counted from 1, of the last rule before another one, or before one that is to come where that is 0, that may have the call and
+ * the conditions of a rule; 0 where there is none. */
+size_t alike_before(const struct filter *filter, const struct rule *rule, size_t place);
+/* Whether all rules of a call have an action, so that none of them contradicts or settles one that has it. */
+bool have_action(const struct filter *filter, int call, int number, uint32_t action);
 /* The first rule without conditions for a call on a machine, or NULL. */
 const struct rule *whole_rule(const struct filter *filter, int call, int number, int machine);
 /* The machines on which a rule counts beside the others. */
@@ -119,8 +133,9 @@ enum winner winner_of(const struct rule *earlier, const struct rule *later);
 struct parts { struct rule *rules; size_t count, room; const struct rule *beside; };
 int list_parts(const struct filter *filter, const struct rule *rule, int machine, const struct rule *last, struct parts *parts);
 void free_parts(struct parts *parts);
-/* The machines on which libseccomp may lose a rule that is added, or another one by it. */
-uint32_t machines_that_lose(const struct filter *filter, const struct rule *rule);
+/* Finds out for the rules of a call on which machines libseccomp may lose one, or another one by it. It has to be known before machines are
+ * taken away, and where rules settle each other. */
+void find_lost(struct filter *filter, int call, int number);
 /* The machines on which one call meets a rule that is added and an unlike one before it. */
 uint32_t machines_that_settle(const struct filter *filter, const struct rule *rule);
 /* Whether the last rule, and those of which it leaves less, can be given to ccell: 0, or an error. */

@@ -79,6 +79,7 @@ int contradicts(const struct rule *rule, const struct rule *other, int machine) 
 /* Whether a rule before this one has another action for a call that matches both, and which of the two counts is not known. It is told
  * by the rule that was asked for. */
 static int judge_overlaps(const struct filter *filter, const struct rule *rule, const struct rule *asked) {
+    if (have_action(filter, rule->call, rule->number, rule->action)) return 0;
     for (size_t at = 0; (at = rule_before(filter, rule->call, rule->number, at));) {
         const struct rule *old = &filter->rules[at - 1];
         if (old->action == rule->action || (!is_strict && rule == asked && winner_of(old, rule) != NEITHER)) continue;

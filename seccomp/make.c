@@ -52,7 +52,8 @@ static int write_way(const struct filter *filter, struct list *list, const struc
 /* Writes what is left of a rule on a machine beside the others. */
 static int write_parts(const struct filter *filter, struct list *list, const struct rule *rule, int machine, size_t of) {
     struct parts parts = {NULL, 0, 0, NULL};
-    if (!rule->count || is_strict) return write_for(list, rule, machine, of);
+    bool are_alike = have_action(filter, rule->call, rule->number, rule->action);
+    if (!rule->count || is_strict || are_alike) return write_for(list, rule, machine, of);
     int error = list_parts(filter, rule, machine, NULL, &parts);
     if (error == -EEXIST) error = contradicts(rule, parts.beside, machine); /* it was found when they were added */
     for (size_t i = 0; !error && i < parts.count; i++) error = write_for(list, &parts.rules[i], machine, of);
@@ -106,8 +107,30 @@ static int tell(const struct filter *filter, const struct list *list, uint32_t s
     return refuse(-EFAULT, "status %u of ccell", status);
 }
 
-/* ccell is called on a stack of its own, since a thread of an engine may have little. */
+/* ccell is called on a stack of its own, since a thread of an engine may have little. One is kept for the next filter: its pages are there. */
 enum { STACK = 1 << 20 };
+static void *kept_stack;
+
+__attribute__((noinline)) static void *take_stack(void) { /* before getcontext, which may come back twice */
+    void *stack = __atomic_exchange_n(&kept_stack, NULL, __ATOMIC_ACQUIRE);
+    if (stack) return stack;
+    stack = mmap(NULL, STACK, PROT_READ | PROT_WRITE, MAP_PRIVATE | MAP_ANONYMOUS | MAP_STACK, -1, 0);
+    if (stack == MAP_FAILED) return NULL;
+    if (!mprotect(stack, 4096, PROT_NONE)) return stack; /* the lowest page is a guard */
+    munmap(stack, STACK);
+    return NULL;
+}
+
+static void give_stack(void *stack) {
+    void *none = NULL;
+    bool is_kept = __atomic_compare_exchange_n(&kept_stack, &none, stack, false, __ATOMIC_RELEASE, __ATOMIC_RELAXED);
+    if (!is_kept) munmap(stack, STACK);
+}
+
+__attribute__((destructor)) static void drop_stack(void) {
+    if (kept_stack) munmap(kept_stack, STACK);
+}
+
 struct question {
     const struct filter *filter;
     const struct list *list;
@@ -134,9 +157,9 @@ static void answer(unsigned low, unsigned high) {
 static int ask(struct filter *filter, const struct list *list) {
     struct question of = {filter, list, write_lead(filter, filter->bytes), {0, 0, 0}, CCELL_NO_MEMORY};
     ucontext_t here, there;
-    void *stack = mmap(NULL, STACK, PROT_READ | PROT_WRITE, MAP_PRIVATE | MAP_ANONYMOUS | MAP_STACK, -1, 0);
-    if (stack == MAP_FAILED) return -ENOMEM;
-    bool is_switched = !mprotect(stack, 4096, PROT_NONE) && !getcontext(&there); /* the lowest page is a guard */
+    void *stack = take_stack();
+    if (!stack) return -ENOMEM;
+    bool is_switched = !getcontext(&there);
     if (is_switched) {
         there.uc_stack.ss_sp = stack;
         there.uc_stack.ss_size = STACK;
@@ -144,7 +167,7 @@ static int ask(struct filter *filter, const struct list *list) {
         makecontext(&there, (void (*)(void))answer, 2, (unsigned)(uintptr_t)&of, (unsigned)((uintptr_t)&of >> 32));
         is_switched = !swapcontext(&here, &there);
     }
-    munmap(stack, STACK);
+    give_stack(stack);
     int error = is_switched ? tell(filter, list, of.status, &of.at) : -EFAULT;
     if (!error && of.lead) error = judge_lead(filter->bytes + of.lead);
     filter->length = error ? 0 : of.lead + of.at.count;

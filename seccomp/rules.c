@@ -24,54 +24,107 @@ static int read_conditions(struct rule *rule, unsigned count, const struct scmp_
     return 0;
 }
 
-/* ---- the list of rules, and the slots in which those of a call find each other */
+/* ---- the list of rules, and the slots in which those of a call, and those with the same conditions, find each other */
 
-static size_t *slot_of(const struct filter *filter, int call, int number) {
-    uint64_t key = ((uint64_t)(uint32_t)call << 32 | (uint32_t)number) * 0x9e3779b97f4a7c15;
-    return &filter->latest[key >> 32 & (filter->room - 1)];
+static uint64_t mixed(uint64_t key, uint64_t with) {
+    key = (key ^ with) * 0x9e3779b97f4a7c15;
+    return key ^ key >> 32;
+}
+
+static uint64_t key_of(int call, int number) { return mixed(0, (uint64_t)(uint32_t)call << 32 | (uint32_t)number); }
+
+/* The slot of a call, or the free one that it would get. There is always one that is free. */
+static struct of_call *slot_of(const struct filter *filter, int call, int number) {
+    for (size_t i = key_of(call, number);; i++) {
+        struct of_call *slot = &filter->calls[i & (2 * filter->room - 1)];
+        if (!slot->is_taken || (slot->call == call && slot->number == number)) return slot;
+    }
+}
+
+static size_t *slot_of_conditions(const struct filter *filter, const struct rule *rule) {
+    uint64_t key = key_of(rule->call, rule->number);
+    for (unsigned i = 0; i < rule->count; i++) {
+        const struct ccell_condition *each = &rule->conditions[i];
+        key = mixed(mixed(mixed(key, (uint64_t)each->argument << 32 | each->operator_), each->value), each->datum);
+    }
+    return &filter->conditions[key & (filter->room - 1)];
 }
 
 static void enter(struct filter *filter, size_t place) {
     struct rule *rule = &filter->rules[place];
-    size_t *slot = slot_of(filter, rule->call, rule->number);
-    rule->before = *slot;
+    struct of_call *of = slot_of(filter, rule->call, rule->number);
+    size_t *slot = slot_of_conditions(filter, rule);
+    if (!of->is_taken) {
+        *of = (struct of_call){.is_taken = true, .call = rule->call, .number = rule->number};
+        filter->called++;
+    }
+    rule->before = of->last;
+    rule->were_unlike = of->are_unlike;
+    rule->had_whole = of->has_whole;
+    of->are_unlike |= of->last && filter->rules[of->last - 1].action != rule->action;
+    of->has_whole |= !rule->count;
+    of->last = place + 1;
+    rule->alike = *slot;
     *slot = place + 1;
 }
 
 size_t rule_before(const struct filter *filter, int call, int number, size_t place) {
     if (!filter->room) return 0;
-    size_t at = place ? filter->rules[place - 1].before : *slot_of(filter, call, number);
-    while (at && (filter->rules[at - 1].call != call || filter->rules[at - 1].number != number)) at = filter->rules[at - 1].before;
-    return at;
+    return place ? filter->rules[place - 1].before : slot_of(filter, call, number)->last;
 }
 
+size_t alike_before(const struct filter *filter, const struct rule *rule, size_t place) {
+    if (!filter->room) return 0;
+    return place ? filter->rules[place - 1].alike : *slot_of_conditions(filter, rule);
+}
+
+bool have_action(const struct filter *filter, int call, int number, uint32_t action) {
+    const struct of_call *of = filter->room ? slot_of(filter, call, number) : NULL;
+    return !of || !of->last || (!of->are_unlike && filter->rules[of->last - 1].action == action);
+}
+
+/* Makes room for another rule and for its call. */
 static int grow(struct filter *filter) {
-    size_t room = filter->room ? 2 * filter->room : 64;
-    size_t *latest = calloc(room, sizeof *latest);
-    struct rule *rules = latest ? reallocarray(filter->rules, room, sizeof *rules) : NULL;
+    size_t room = !filter->room ? 64 : filter->now.count == filter->room ? 2 * filter->room : filter->room;
+    struct of_call *calls = calloc(2 * room, sizeof *calls);
+    size_t *conditions = calls ? calloc(room, sizeof *conditions) : NULL;
+    struct rule *rules = conditions ? reallocarray(filter->rules, room, sizeof *rules) : NULL;
     if (!rules) {
-        free(latest);
+        free(calls);
+        free(conditions);
         return -ENOMEM;
     }
-    free(filter->latest);
+    free(filter->calls);
+    free(filter->conditions);
     filter->rules = rules;
-    filter->latest = latest;
+    filter->calls = calls;
+    filter->conditions = conditions;
     filter->room = room;
+    filter->called = 0;
     for (size_t place = 0; place < filter->now.count; place++) enter(filter, place);
     return 0;
 }
 
+static bool is_full(const struct filter *filter) { return filter->now.count == filter->room || filter->called == filter->room; }
+
 void drop_rules(struct filter *filter, size_t count) {
     while (filter->now.count > count) {
         const struct rule *last = &filter->rules[--filter->now.count];
-        *slot_of(filter, last->call, last->number) = last->before;
+        struct of_call *of = slot_of(filter, last->call, last->number);
+        of->last = last->before;
+        of->are_unlike = last->were_unlike;
+        of->has_whole = last->had_whole;
+        *slot_of_conditions(filter, last) = last->alike;
     }
 }
 
 int copy_rules(struct filter *filter, const struct filter *from) {
-    while (filter->room < filter->now.count + from->now.count)
-        if (grow(filter)) return -ENOMEM;
+    size_t count = filter->now.count;
     for (size_t i = 0; i < from->now.count; i++) {
+        if (is_full(filter) && grow(filter)) {
+            drop_rules(filter, count);
+            return -ENOMEM;
+        }
         filter->rules[filter->now.count] = from->rules[i];
         enter(filter, filter->now.count++);
     }
@@ -80,6 +133,7 @@ int copy_rules(struct filter *filter, const struct filter *from) {
 
 const struct rule *whole_rule(const struct filter *filter, int call, int number, int machine) {
     const struct rule *first = NULL;
+    if (!filter->room || !slot_of(filter, call, number)->has_whole) return NULL;
     for (size_t at = 0; (at = rule_before(filter, call, number, at));)
         if (!filter->rules[at - 1].count && filter->rules[at - 1].machines >> machine & 1) first = &filter->rules[at - 1];
     return first;
@@ -97,17 +151,17 @@ uint32_t counting(const struct filter *filter, const struct rule *rule) {
     return machines;
 }
 
-static bool has_same_conditions(const struct rule *a, const struct rule *b) {
-    return a->count == b->count && !memcmp(a->conditions, b->conditions, a->count * sizeof *a->conditions);
+static bool is_same_but_for_action(const struct rule *a, const struct rule *b) {
+    return a->call == b->call && a->number == b->number && a->count == b->count && !memcmp(a->conditions, b->conditions, a->count * sizeof *a->conditions);
 }
 
 /* Whether the rule is there already, 1, or contradicts one that is the same but for its action, whatever machines have the call, as in
  * libseccomp. */
 static int find_same(const struct filter *filter, const struct rule *rule) {
     int answer = 0;
-    for (size_t at = 0; (at = rule_before(filter, rule->call, rule->number, at));) {
+    for (size_t at = 0; (at = alike_before(filter, rule, at));) {
         const struct rule *old = &filter->rules[at - 1];
-        if (!(old->machines & rule->machines) || !has_same_conditions(old, rule)) continue;
+        if (!(old->machines & rule->machines) || !is_same_but_for_action(old, rule)) continue;
         if (old->action != rule->action) return refuse(-EEXIST, "%s contradicts %s", rule_text(rule).is, rule_text(old).is);
         if ((old->machines & rule->machines) == rule->machines) answer = 1;
     }
@@ -128,12 +182,13 @@ static int append(struct filter *filter, struct rule *rule) {
     int is_new = judge(filter, rule);
     if (!is_new) return judge_again(filter, rule);
     if (is_new < 0) return is_new;
-    if (filter->now.count == filter->room && grow(filter)) return -ENOMEM;
-    rule->lost = machines_that_lose(filter, rule);
+    if (is_full(filter) && grow(filter)) return -ENOMEM;
+    rule->is_open = true;
     rule->settles = machines_that_settle(filter, rule);
     filter->rules[filter->now.count] = *rule;
     enter(filter, filter->now.count++);
     filter->length = 0;
+    if (!have_action(filter, rule->call, rule->number, rule->action)) find_lost(filter, rule->call, rule->number);
     int error = judge_last(filter);
     if (error) drop_rules(filter, filter->now.count - 1);
     return error;
