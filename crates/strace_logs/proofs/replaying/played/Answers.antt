@@ -27,8 +27,8 @@ returns c =
     let are : calls ≡ calls_in native logs =
     ap all_logged c.deref.ensures.value ∙ c.in_ok-name.ensures.calls c.in-None.is
     ∙ ap (λ (l : List LogCall). all_logged l ++ calls_in native logs) c.new-calls.ensures.items in
-    let told = c.in_ok-told.told in
+    let told = c.in_ok-told-in-None.told in
     if_ok_both (λ (new : Told). new.bytes.items ≡ told.bytes.items ++ unread_text native logs)
     (λ (new : Told). new.end ≡ end_if (are_read native logs) told.end) (Plays native p rules ends logs unused)
-    (λ new bytes end. inr (logs_played native p rules ends logs unused calls told new none are c.in_ok-told.ensures bytes end))
+    (λ new bytes end. inr (logs_played native p rules ends logs unused calls told new none are c.in_ok-told-in-None.ensures bytes end))
     c.with_unread.result c.with_unread.ensures.bytes c.with_unread.ensures.end
