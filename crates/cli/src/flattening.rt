@@ -1,8 +1,9 @@
 //! What `ccell flatten` does.
-ghost use Rattle.std.specs.Prelude.{◌≡◌, IfOk, map};
+ghost use Rattle.std.specs.Prelude.{◌≡◌, IfOk, false, map};
 ghost use Rattle.byte_order.specs.Turned.{written_as};
 ghost use Rattle.cli.specs.Flat.{TellsFlat};
-ghost use Rattle.wording.specs.declared.told.End.TheVariants.{Done, No};
+ghost use Rattle.wording.specs.Told.{was_done};
+ghost use Rattle.wording.specs.declared.told.End.TheVariants.{Done};
 ghost use Rattle.cli.specs.inner.Telling.{IsToldOf};
 
 use crate::files::{Files, read_each};
@@ -13,14 +14,25 @@ use machines::Arch;
 use std::alloc::{AllocError, Global};
 use wording::{End, Told};
 
+// How it ends where there is none: a file that is no filter is refused.
+fn end_of(why: &Unflat) -> End
+    ensures { was_done result ≡ false }
+{
+    match why {
+        Unflat::Bytes(_, _) => End::Refused,
+        Unflat::Refused(_, _) => End::Refused,
+        _ => End::No,
+    }
+}
+
 // Why there is none.
 fn untold(alloc: Global, why: &Unflat) -> Result<Told, AllocError>
-    ensures { IfOk result (λ told. told.end ≡ No) }
+    ensures { IfOk result (λ told. was_done told.end ≡ false) }
 {
     let line = line_of(alloc, why)?;
     Ok(Told {
         bytes: line.into_bytes(),
-        end: End::No,
+        end: end_of(why),
     })
 }
 
