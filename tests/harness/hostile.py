@@ -83,7 +83,15 @@ def names(dice):
     return section(dice, [(every, [condition(dice, dice.randrange(6))]) for _ in range(much(dice, 2, 20))], machines)
 
 
-SECTIONS = [masks, masks_and_numbers, numbers, ranges, six, names]
+def crowd(dice):
+    """Masks of a few bits for many calls, so many that each call has too many answers, or just not."""
+    every = list(names_of(MACHINE).values())
+    calls, bits, own = much(dice, 1, len(every)), dice.choice([8, 12, 17, 40]), dice.choice([1, 2, 3])
+    sets = [sum(1 << bit for bit in dice.sample(range(bits), own)) for _ in range(min(1000, 8000 // calls))]
+    return section(dice, [(every[:calls], [argument(0, "MASKED_EQ", mask, mask & dice.getrandbits(bits))]) for mask in sets])
+
+
+SECTIONS = [masks, masks_and_numbers, numbers, ranges, six, names, crowd]
 
 
 def text(dice):
@@ -160,15 +168,15 @@ def of_bundle(dice, room):
     make = dice.choice([*SECTIONS, text])
     made = make(dice)
     path = put(room, "a.json", made if make is text else json.dumps(made))
-    command = dice.choice(["read", "lint", "review", "export", "explain", "adapt", "json read", "json lint", "learn", "run"])
+    command = dice.choice(["read", "lint", "review", "export", "explain", "adapt", "json read", "json lint", "json review", "learn", "run"])
     words = {
+        "read": ["read", MACHINE, path, *dice.choice([[], ["rules"]])],
+        "review": ["review", MACHINE, path, *dice.choice([[], ["html"]])],
         "export": ["export", MACHINE, path, dice.choice(["raw", "cert", "listing"])],
-        "explain": ["explain", MACHINE, path, "ioctl", "any"],
-        "adapt": ["adapt", MACHINE, path, *dice.choice([[], ["narrow"], ["first"]])],
-        "json read": ["json", "read", MACHINE, path],
-        "json lint": ["json", "lint", MACHINE, path],
+        "explain": ["explain", MACHINE, path, "ioctl", dice.choice(["any", "record"])],
+        "adapt": ["adapt", MACHINE, path, *dice.choice([[], ["narrow"], ["first"], ["widen"], ["stricter"], ["narrow", "like-libseccomp"]])],
         "learn": ["learn", MACHINE, "from", path, put(room, "log", log(dice))],
-    }.get(command, [command, MACHINE, path])
+    }.get(command, [*command.split()[:-1], command.split()[-1], MACHINE, path])
     return f"{command} {make.__name__}", words, b"create c b1\nstart c\n" * 100 if command == "run" else b""
 
 
@@ -178,23 +186,28 @@ def of_bundles(dice, room):
     other = make if dice.random() < 0.5 else dice.choice(SECTIONS)
     paths = [put(room, f"{n}.json", json.dumps(it(dice))) for n, it in enumerate([make, other])]
     command = dice.choice(["compare", "json compare", "join", "meet"])
-    return f"{command} {make.__name__}+{other.__name__}", [*command.split(), MACHINE, *paths], b""
+    words = ["atmost"] if "compare" in command and dice.random() < 0.5 else []
+    return f"{command} {make.__name__}+{other.__name__}", [*command.split(), MACHINE, *paths, *words], b""
 
 
 def of_filter(dice, room):
     """A command that reads filters, and perhaps a bundle."""
     make = dice.choice([filter_of, filter_of, jumps])
     path = put(room, "filter.bpf", make(dice))
-    command = dice.choice(["recover", "recover", "certify", "stack", "flatten", "annotate", "draw", "verdict"])
+    command = dice.choice(["recover", "recover", "certify", "json certify", "compare", "stack", "flatten", "annotate", "draw", "verdict"])
     bundle = dice.choice(SECTIONS)
+    left = dice.choice([[], [], ["calls"], ["without-x32"], ["runc"]])
     words = {
-        "certify": ["certify", MACHINE, put(room, "a.json", json.dumps(bundle(dice))), path],
+        "recover": ["recover", MACHINE, path, *dice.choice([left, ["others"], ["bundle"]])],
+        "certify": ["certify", MACHINE, put(room, "a.json", json.dumps(bundle(dice))), path, *left],
+        "json certify": ["json", "certify", MACHINE, put(room, "a.json", json.dumps(bundle(dice))), path],
+        "compare": ["compare", MACHINE, path, put(room, "other.bpf", filter_of(dice)), "filters"],
         "stack": ["stack", MACHINE, path, put(room, "other.bpf", filter_of(dice))],
         "flatten": ["flatten", MACHINE, path, put(room, "other.bpf", filter_of(dice))],
         "annotate": ["annotate", MACHINE, path, *dice.choice([[], ["cost"]])],
         "verdict": ["verdict", path, put(room, "call.rec", bytes(64))],
     }.get(command, [command, MACHINE, path])
-    return f"{command} {bundle.__name__ if command == 'certify' else make.__name__}", words, b""
+    return f"{command} {bundle.__name__ if 'certify' in command else make.__name__}", words, b""
 
 
 def of_certificate(dice, room):
@@ -206,7 +219,7 @@ def of_certificate(dice, room):
 
 def of_log(dice, room):
     """A command that reads logs, or a long text."""
-    command = dice.choice(["learn", "replay", "explain audit", "assemble", "record"])
+    command = dice.choice(["learn", "replay", "json replay", "explain audit", "assemble", "record"])
     if command == "explain audit":
         bundle = put(room, "a.json", json.dumps(dice.choice(SECTIONS)(dice)))
         line = "audit: sig=0 arch=c000003e syscall={} compat=0 ip=0x{:x} code=0x50000\n"
@@ -219,7 +232,8 @@ def of_log(dice, room):
         return command, ["record", MACHINE, "clone", "|".join(["CLONE_NEWUSER"] * much(dice, 1, 5000))], b""
     path = put(room, "log", log(dice))
     bundle = put(room, "a.json", json.dumps(dice.choice(SECTIONS)(dice)))
-    return command, [command, MACHINE, *([bundle] if command == "replay" else []), path], b""
+    words = {"learn": dice.choice([[], ["keep", "ioctl:1"], ["for", "crun"]]), "replay": dice.choice([[], ["unused"]])}.get(command, [])
+    return command, [*command.split(), MACHINE, *([bundle] if "replay" in command else []), path, *words], b""
 
 
 # How often each is drawn.
