@@ -23,8 +23,3 @@ widened_of native file bundle learned texts runtime otherwise bundles told same 
   is = is;
   both = subst (λ (bs : List (List ℕ)). IsCombined native Laxest bs told.bytes.items) same (combined done);
 }
-
--- what is not left undone is done
-pub is_done : (done : Bool) → not done ≡ false → done ≡ true
-is_done true e = refl
-is_done false e = absurd (cc)

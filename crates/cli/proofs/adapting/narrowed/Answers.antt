@@ -1,5 +1,4 @@
 use Rattle.std.proofs.Common.{◌∙◌, inl, inr, refl, sym}
-use Rattle.std.proofs.lemmas.Bool.{not-false, not-true}
 use Rattle.cli.proofs.DoubtLaws.{told_as_doubtful}
 use Rattle.cli.proofs.adapting.narrowed.Goals as goal
 
@@ -7,7 +6,7 @@ pub returns-then-not-is_done : goal.returns-then-not-is_done
 returns-then-not-is_done c = λ choice is. record {
   made = c.args.made.told;
   is_made = is;
-  is_narrowed = inr (sym c.is_done.ensures ∙ not-true c.is_done.result c.if-not-is_done.true, refl);
+  is_narrowed = inr (sym c.is_done.ensures ∙ c.if-not-is_done.true, refl);
 }
 
 pub returns : goal.returns
@@ -15,7 +14,7 @@ returns c = λ choice is. record {
   made = c.args.made.told;
   is_made = is;
   is_narrowed = inl (
-    sym c.is_done.ensures ∙ not-false c.is_done.result c.if-not-is_done.false,
+    sym c.is_done.ensures ∙ c.if-not-is_done.false,
     told_as_doubtful c.args.native c.args.made.told.bytes.items c.in_ok-narrower.field-0.told c.as_doubtful.result c.as_doubtful.ensures.bytes
         c.as_doubtful.ensures.done (rw c.new-document.ensures.bytes at (rw c.new-document.ensures.native at c.in_ok-narrower.ensures)),
   );

@@ -1,6 +1,7 @@
 use Rattle.std.proofs.Common.{ℕ, List, ap, inr, subst, sym, ◌∙◌}
 use Rattle.std.specs.Prelude.{Ok, Err}
 use Rattle.texts.specs.Sink.{Writes}
+use Rattle.wording.specs.Told.{was_done}
 use Rattle.cli.specs.Json.{ends_by}
 use Rattle.cli.proofs.exporting.export_turned.Goals as goal
 
@@ -13,7 +14,7 @@ returns-in-Ok-write_all g c =
         c.write_all.result,
         subst (λ (b : List ℕ). Writes g.O.Sink.held g.O.Sink.failures c.args.out.now c.write_all.new.sink b c.write_all.result) c.deref.ensures.value
             c.write_all.ensures,
-        sym (ap (ends_by (Ok (was_done c.in-Ok.told.end))) c.in-Ok-write_all.is),
+        ap Ok c.is_done.ensures ∙ sym (ap (ends_by (Ok (was_done c.in-Ok.told.end))) c.in-Ok-write_all.is),
       ),
     )
 

@@ -1,5 +1,4 @@
 use Rattle.std.proofs.Common.{◌∙◌, inl, inr, map, refl, subst, sym}
-use Rattle.std.proofs.lemmas.Bool.{not-false, not-true}
 use Rattle.std.specs.Prelude.{string_bytes}
 use Rattle.allow_groups.specs.Allowed.{HasGroups}
 use Rattle.cli.proofs.WantedLaws.{now_of}
@@ -7,11 +6,11 @@ use Rattle.cli.proofs.DoubtLaws.{grown_as_doubtful}
 use Rattle.cli.proofs.grouping.grown.Goals as goal
 
 pub returns-then-not-is_done : goal.returns-then-not-is_done
-returns-then-not-is_done c = inl (inr (sym c.is_done.ensures ∙ not-true c.is_done.result c.if-not-is_done.true), refl)
+returns-then-not-is_done c = inl (inr (sym c.is_done.ensures ∙ c.if-not-is_done.true), refl)
 
 pub returns : goal.returns
 returns c = inr (
-  sym c.is_done.ensures ∙ not-false c.is_done.result c.if-not-is_done.false,
+  sym c.is_done.ensures ∙ c.if-not-is_done.false,
   λ done. (
     string_bytes c.in_ok-new.field-0.lines,
     subst (λ b. HasGroups c.args.native (map now_of c.args.groups.now) b c.as_doubtful.result.bytes.items

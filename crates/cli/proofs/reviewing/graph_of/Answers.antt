@@ -1,14 +1,14 @@
-use Rattle.std.proofs.Common.{ℕ, List, ap, inl, inr, refl, subst, ◌∙◌}
+use Rattle.std.proofs.Common.{ℕ, List, ap, inl, inr, refl, subst, sym, ◌∙◌}
 use Rattle.byte_order.specs.Turned.{read_as}
 use Rattle.show.specs.Shown.{IsDrawn}
 use Rattle.cli.proofs.ReviewLaws.{if_ok}
 use Rattle.cli.proofs.reviewing.graph_of.Goals as goal
 
-pub returns-then-not-file : goal.returns-then-not-file
-returns-then-not-file c = record {
+pub returns-then-not-is_done : goal.returns-then-not-is_done
+returns-then-not-is_done c = record {
   file = c.in_ok-file.file;
   exported = c.in_ok-file.ensures;
-  drawn = inl (c.if-not-file.true, refl);
+  drawn = inl (sym c.is_done.ensures ∙ c.if-not-is_done.true, refl);
 }
 
 pub returns : goal.returns
@@ -18,6 +18,6 @@ returns c =
     (λ graph h. record {
       file = c.in_ok-file.file;
       exported = c.in_ok-file.ensures;
-      drawn = inr (c.if-not-file.false, subst (λ (filter : List ℕ). IsDrawn filter graph) same h);
+      drawn = inr (sym c.is_done.ensures ∙ c.if-not-is_done.false, subst (λ (filter : List ℕ). IsDrawn filter graph) same h);
     })
     c.drawn.ensures

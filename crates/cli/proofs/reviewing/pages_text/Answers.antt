@@ -1,23 +1,23 @@
-use Rattle.std.proofs.Common.{inl, inr, refl}
+use Rattle.std.proofs.Common.{inl, inr, refl, sym, ◌∙◌}
 use Rattle.cli.proofs.ReviewLaws.{if_ok}
 use Rattle.cli.proofs.reviewing.pages_text.Goals as goal
 
-pub returns-then-not-first : goal.returns-then-not-first
-returns-then-not-first c = λ one_machine. record {
+pub returns-then-not-is_done : goal.returns-then-not-is_done
+returns-then-not-is_done c = λ one_machine. record {
   first = c.in_ok-first.first;
   is_first = c.in_ok-first.ensures;
   second = c.in_ok-second.second;
   is_second = rw one_machine at c.in_ok-second.ensures;
-  page = inl (c.if-not-first.true, refl);
+  page = inl (sym c.is_done.ensures ∙ c.if-not-is_done.true, refl);
 }
 
-pub returns-then-not-second : goal.returns-then-not-second
-returns-then-not-second c = λ one_machine. record {
+pub returns-then-not-is_done-2 : goal.returns-then-not-is_done-2
+returns-then-not-is_done-2 c = λ one_machine. record {
   first = c.in_ok-first.first;
   is_first = c.in_ok-first.ensures;
   second = c.in_ok-second.second;
   is_second = rw one_machine at c.in_ok-second.ensures;
-  page = inr (c.if-not-first.false, inl (c.if-not-second.true, refl));
+  page = inr (sym c.is_done.ensures ∙ c.if-not-is_done.false, inl (sym c.is_done-2.ensures ∙ c.if-not-is_done-2.true, refl));
 }
 
 pub returns : goal.returns
@@ -28,6 +28,6 @@ returns c = λ one_machine.
       is_first = c.in_ok-first.ensures;
       second = c.in_ok-second.second;
       is_second = rw one_machine at c.in_ok-second.ensures;
-      page = inr (c.if-not-first.false, inr (c.if-not-second.false, h));
+      page = inr (sym c.is_done.ensures ∙ c.if-not-is_done.false, inr (sym c.is_done-2.ensures ∙ c.if-not-is_done-2.false, h));
     })
     (c.page_of_both.ensures one_machine)

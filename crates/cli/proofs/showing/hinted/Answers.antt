@@ -1,12 +1,11 @@
 use Rattle.std.proofs.Common.{◌∙◌, sym}
-use Rattle.std.proofs.lemmas.Bool.{not-true}
 use Rattle.cli.proofs.ReadLaws.{tells_hint, tells_refused}
 use Rattle.cli.proofs.showing.hinted.Goals as goal
 
 pub returns-then-not-is_done : goal.returns-then-not-is_done
 returns-then-not-is_done c = λ meaning is named.
     tells_refused c.args.document.now.native c.args.document.now.bytes c.args.told meaning is named
-    (sym c.is_done.ensures ∙ not-true c.is_done.result c.if-not-is_done.true)
+    (sym c.is_done.ensures ∙ c.if-not-is_done.true)
 
 pub returns : goal.returns
 returns c = λ meaning is named.

@@ -1,5 +1,5 @@
-use Rattle.std.proofs.Common.{◌≡◌, ◌++◌, ◌∷◌, [], ◌∙◌, ℕ, List, Vec, Global, ap, map}
-use Rattle.cli.proofs.WidenLaws.{is_done, widened_of}
+use Rattle.std.proofs.Common.{◌≡◌, ◌++◌, ◌∷◌, [], ◌∙◌, ℕ, List, Vec, Global, ap, map, sym}
+use Rattle.cli.proofs.WidenLaws.{widened_of}
 use Rattle.cli.proofs.widening.both_of.Goals as goal
 
 abbrev bytes_of : Vec ℕ Global → List ℕ
@@ -13,4 +13,4 @@ returns c = λ file texts runtime otherwise taken learned.
     let both : c.deref.result.now ≡ c.args.learned.told.bytes ∷ c.args.bundle ∷ [] =
     c.deref.ensures.value ∙ c.in_ok-push-2.ensures.items ∙ ap (λ (t : List (Vec ℕ Global)). t ++ c.args.bundle ∷ []) one in
     widened_of c.args.native file c.args.bundle.items c.args.learned.told.bytes.items texts runtime otherwise (map bytes_of c.deref.result.now)
-    c.in_ok-both.both.told (ap (map bytes_of) both) taken (learned (sym c.is_done.ensures ∙ not-false c.is_done.result c.if-not-is_done.false)) c.in_ok-both.ensures
+    c.in_ok-both.both.told (ap (map bytes_of) both) taken (learned (sym c.is_done.ensures ∙ c.if-not-is_done.false)) c.in_ok-both.ensures
