@@ -82,5 +82,5 @@ int main(int count, char **words) {
         if (bytes < 0) return fputs("timed: no filter\n", stderr), 1;
         if (took < least) least = took;
     }
-    printf("%ld %.2f\n", bytes, least);
+    printf("%ld %.3f\n", bytes, least);
 }
