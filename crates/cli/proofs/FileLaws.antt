@@ -24,7 +24,9 @@ use Rattle.maker.specs.declared.make_error.MakeError.TheVariants.{Profile, Compi
 use Rattle.maker.specs.declared.verdict.Answer.{Answer}
 use Rattle.maker.specs.declared.verdict.Answer.TheVariants.{Verdict, NoRecord, NoProgram, Refusal}
 use Rattle.show.specs.Shown.{IsShown}
+use Rattle.wording.specs.declared.told.End.{End}
 use Rattle.wording.specs.declared.told.Told.{Told}
+use Rattle.cli.specs.Told.{TellsFilter}
 use Rattle.compare.specs.declared.behind_runc.stub.calls.Calls.{Calls}
 use Rattle.maker.specs.declared.evidence.evidence.Conviction.{Conviction}
 use Rattle.compare.specs.Convictions.{AllConvict, Convicts, TellsAll}
@@ -268,9 +270,13 @@ recovered_of_file filter f enough native words told false h = left_of_file filte
 
 -- what is shown of a filter
 module _ (filter f : List ℕ) (enough : IsEnough 32768 filter f) where
-  pub shown_of_file : (mark : List ℕ) (told : Told) → IsShown mark f told → IsShown mark filter told
-  shown_of_file mark told (inl h) = inl (record { fault = h.fault; stands = same_fault filter f enough ∙ h.stands; tells = h.tells })
-  shown_of_file mark told (inr (inl h)) =
-      subst (λ x. IsShown mark x told) (whole_filter filter f enough h.program) (inr (inl h))
-  shown_of_file mark told (inr (inr h)) =
-      subst (λ x. IsShown mark x told) (whole_filter filter f enough h.program) (inr (inr h))
+  pub shown_of_file : (mark : List ℕ) (ends : End) (told : Told) → IsShown mark ends f told → IsShown mark ends filter told
+  shown_of_file mark ends told (inl h) = inl (record { fault = h.fault; stands = same_fault filter f enough ∙ h.stands; tells = h.tells })
+  shown_of_file mark ends told (inr (inl h)) =
+      subst (λ x. IsShown mark ends x told) (whole_filter filter f enough h.program) (inr (inl h))
+  shown_of_file mark ends told (inr (inr h)) =
+      subst (λ x. IsShown mark ends x told) (whole_filter filter f enough h.program) (inr (inr h))
+
+  pub filter_of_file : (told : Told) → TellsFilter f told → TellsFilter filter told
+  filter_of_file told (inl h) = inl (shown_of_file _ _ told h)
+  filter_of_file told (inr h) = inr (shown_of_file _ _ told h)

@@ -27,7 +27,7 @@ use Rattle.wording.specs.declared.told.End.TheVariants as end
 use Rattle.wording.specs.declared.told.Told.{Told}
 use Rattle.explain.specs.Any.{IsExplained as IsExplainedAny}
 use Rattle.explain.specs.Audit.{IsAudited}
-use Rattle.show.specs.Shown.{IsAnnotated, IsDrawn}
+use Rattle.show.specs.Shown.{IsDrawn}
 use Rattle.compare.specs.Behind.{CertifiesAllBehind, CertifiesBehind}
 use Rattle.compare.specs.Convictions.{TellsAll}
 use Rattle.cli.specs.Compared.{TellsCompared}
@@ -54,7 +54,7 @@ use Rattle.cli.specs.Combined.{TellsCombined, TellsStack}
 use Rattle.cli.specs.Flat.{TellsFlat}
 use Rattle.together.specs.declared.way.Way.{Way}
 use Rattle.together.specs.declared.way.Way.TheVariants.{Laxest, Strictest}
-use Rattle.cli.specs.Told.{IsManual, IsNoCommand, IsReplayed, NamesLogs, of_none, of_one, of_two, OfArguments, OfBundle, OfBundles, OfEach}
+use Rattle.cli.specs.Told.{IsManual, IsNoCommand, IsReplayed, NamesLogs, of_none, of_one, of_two, OfArguments, OfBundle, OfBundles, OfEach, TellsFilter}
 use Rattle.cli.specs.Widened.{TellsWidened, from_in, rest_of}
 use Rattle.cli.specs.Written.{NamesForm, WritesMade}
 use Rattle.cli.specs.Files.{CannotBeRead, Folder, HasBundle, HasBytes, HasEnough, HasFilter}
@@ -462,7 +462,7 @@ module _ {I O : Type 0} (left : I → Option (List ℕ)) (given : I → Failures
   DoesWith Assemble p result = (input' ≡ input) × AnswersTold held taken folder out out' (p.one ∷ []) (of_one IsAssembled) result
   DoesWith Read p result = (input' ≡ input) × AnswersRead held taken folder out out' (bytes_eq p.three (codes "rules")) p result
   DoesWith Annotate p result =
-      (input' ≡ input) × AnswersTold held taken folder out out' (p.two ∷ []) (of_one (λ file. IsAnnotated (read_as p.native file))) result
+      (input' ≡ input) × AnswersTold held taken folder out out' (p.two ∷ []) (of_one (λ file. TellsFilter (read_as p.native file))) result
   DoesWith Draw p result =
       (input' ≡ input) × AnswersTold held taken folder out out' (p.two ∷ []) (of_one (λ file. IsDrawn (read_as p.native file))) result
   DoesWith Lint p result =

@@ -1,5 +1,5 @@
 -- What commands tell of the texts of files, and of none.
-use Rattle.std.specs.Prelude.{ℕ, ◌≡◌, ◌≢◌, Bool, true, false, List, [], ◌∷◌, ◌++◌, map, codes, Option, Some, None}
+use Rattle.std.specs.Prelude.{ℕ, ◌≡◌, ◌≢◌, ◌⊎◌, Bool, true, false, List, [], ◌∷◌, ◌++◌, map, codes, Option, Some, None}
 use Rattle.std.specs.List.{zip}
 use denote.Ref.{Bor}
 use Rattle.machines.specs.declared.arch.Arch.{Arch}
@@ -9,6 +9,7 @@ use Rattle.command_line.specs.Manual.{IsPage, list_of}
 use Rattle.command_line.specs.Table.{rows}
 use Rattle.wording.specs.Told.{TellsText}
 use Rattle.wording.specs.declared.told.End.TheVariants.{Done}
+use Rattle.show.specs.Shown.{IsAnnotated, IsCosted}
 use Rattle.wording.specs.declared.told.Told.{Told}
 use Rattle.strace_logs.specs.Replayed.{TellsReplayed}
 
@@ -51,6 +52,10 @@ pub record OfArguments (Is : List (Bor (List ℕ)) → Told → Type 0) (argumen
   pub lying : List (Bor (List ℕ))
   pub same : map (λ a. a.now) lying ≡ arguments
   pub is : Is lying told
+
+-- a filter as a listing, or as what it costs
+abbrev pub TellsFilter : List ℕ → Told → Type 0
+TellsFilter filter told = IsAnnotated filter told ⊎ IsCosted filter told
 
 -- it was done: the list of commands, or the page of the one of that name
 abbrev pub IsManual : Option (List ℕ) → Told → Type 0

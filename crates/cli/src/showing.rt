@@ -3,11 +3,11 @@ ghost use Rattle.std.specs.Prelude.{◌≡◌, [], ◌∷◌, ℕ, List, IfOk, s
 ghost use Rattle.machines.specs.declared.arch.Arch.{Arch as TheArch};
 ghost use Rattle.byte_order.specs.Turned.{read_as};
 ghost use Rattle.show.specs.Read.{IsReadOut};
-ghost use Rattle.show.specs.Shown.{IsAnnotated, IsDrawn};
+ghost use Rattle.show.specs.Shown.{IsDrawn};
 ghost use Rattle.rules_text.specs.Text.{IsTextOf};
 ghost use Rattle.cli.specs.Read as spec;
 ghost use Rattle.cli.specs.Read.{HasHint, HasNames, TellsRead, TellsRules};
-ghost use Rattle.cli.specs.Told.{OfBundle, of_one};
+ghost use Rattle.cli.specs.Told.{OfBundle, TellsFilter, of_one};
 ghost use Rattle.cli.specs.inner.Telling.{IsToldOf};
 ghost use Rattle.wording.specs.declared.told.Told.{Told as TheTold};
 
@@ -23,7 +23,7 @@ use wording::{End, Told, refused_profile};
 
 // What is shown of a filter: the lines of its listing, with what they mean, or behind `cost` what it costs the calls.
 fn shown_as(alloc: Global, native: Arch, filter: &[u8], word: &str) -> Result<Told, AllocError>
-    ensures { IfOk result (IsAnnotated filter.now) }
+    ensures { IfOk result (TellsFilter filter.now) }
 {
     if word == "cost" {
         return show::costs(alloc, native, filter);
@@ -39,7 +39,7 @@ pub(crate) fn annotated<'a, F: Files>(
     word: &str,
     files: &mut F,
 ) -> Result<Told, Stop<'a>>
-    ensures { IsToldOf (F.folder files.old) (filter.entry.now ∷ []) (of_one (λ file. IsAnnotated (read_as native file))) result }
+    ensures { IsToldOf (F.folder files.old) (filter.entry.now ∷ []) (of_one (λ file. TellsFilter (read_as native file))) result }
 {
     match read_filter(alloc, native, files, filter) {
         Ok(bytes) => match shown_as(alloc, native, &bytes, word) {

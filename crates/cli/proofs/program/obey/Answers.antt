@@ -1,10 +1,10 @@
 use Rattle.std.proofs.Common.{[], ◌∷◌, codes, inl, inr, refl, ⊎_elim}
 use Rattle.byte_order.specs.Turned.{read_as}
 use Rattle.explain.specs.Told.{IsAssembled, IsRecorded, IsVersion}
-use Rattle.show.specs.Shown.{IsAnnotated, IsDrawn}
+use Rattle.show.specs.Shown.{IsDrawn}
 use Rattle.command_line.specs.Lines.{texts}
 use Rattle.cli.specs.Dispatch.{any_call, explained_as}
-use Rattle.cli.specs.Told.{OfArguments, OfBundle, of_none, of_one, of_two}
+use Rattle.cli.specs.Told.{OfArguments, OfBundle, TellsFilter, of_none, of_one, of_two}
 use Rattle.cli.specs.Flat.{TellsFlat}
 use Rattle.cli.specs.Recovered.{TellsAsked, has_word}
 use Rattle.cli.specs.Written.{WritesMade}
@@ -60,7 +60,7 @@ pub returns-in-Annotate-clause-does : goal.returns-in-Annotate-clause-does
 returns-in-Annotate-clause-does g c = rw c.in-Annotate.is (
   refl,
   answers_told g.O.Sink.held g.O.Sink.failures (g.F.Files.folder c.args.files.now) (c.args.parts.two.now ∷ [])
-      (of_one (λ file. IsAnnotated (read_as c.args.parts.native file)))
+      (of_one (λ file. TellsFilter (read_as c.args.parts.native file)))
       c.args.out.now c.tell-in-Annotate.new.out c.tell-in-Annotate.result c.annotated.result c.annotated.ensures c.tell-in-Annotate.ensures,
 )
 

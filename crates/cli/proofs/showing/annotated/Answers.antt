@@ -1,7 +1,7 @@
 use Rattle.std.proofs.Common.{ℕ, List, [], ◌∷◌, subst, sym}
-use Rattle.show.specs.Shown.{IsAnnotated}
+use Rattle.cli.specs.Told.{TellsFilter}
 use Rattle.cli.specs.Files.{HasEnoughFilter}
-use Rattle.cli.proofs.FileLaws.{shown_of_file}
+use Rattle.cli.proofs.FileLaws.{filter_of_file}
 use Rattle.cli.proofs.showing.annotated.Goals as goal
 
 pub returns-in-Ok-shown_as : goal.returns-in-Ok-shown_as
@@ -10,6 +10,6 @@ returns-in-Ok-shown_as g c =
     c.in-Ok.ensures.ok in (
       read.has.file ∷ [],
       (read.has.is, tt),
-      subst (λ (f : List ℕ). IsAnnotated f c.in-Ok-shown_as.told) read.has.read
-          (shown_of_file read.filter c.deref.result.now read.enough _ c.in-Ok-shown_as.told c.in-Ok-shown_as.ensures),
+      subst (λ (f : List ℕ). TellsFilter f c.in-Ok-shown_as.told) read.has.read
+          (filter_of_file read.filter c.deref.result.now read.enough c.in-Ok-shown_as.told c.in-Ok-shown_as.ensures),
     )

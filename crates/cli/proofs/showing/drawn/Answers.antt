@@ -11,5 +11,5 @@ returns-in-Ok-drawn g c =
       read.has.file ∷ [],
       (read.has.is, tt),
       subst (λ (f : List ℕ). IsDrawn f c.in-Ok-drawn.told) read.has.read
-          (shown_of_file read.filter c.deref.result.now read.enough _ c.in-Ok-drawn.told c.in-Ok-drawn.ensures),
+          (shown_of_file read.filter c.deref.result.now read.enough _ _ c.in-Ok-drawn.told c.in-Ok-drawn.ensures),
     )
