@@ -33,7 +33,7 @@ def reading(text, *words):
             file.write(text)
         if words:
             ran = ccell("adapt", MACHINE, path, *words[1:])
-            if ran.returncode:
+            if ran.returncode not in (0, 5):
                 return meaning.REFUSED, b""
             text = ran.stdout
             with open(path, "wb") as file:
