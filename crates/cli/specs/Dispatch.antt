@@ -54,7 +54,8 @@ use Rattle.cli.specs.Combined.{TellsCombined, TellsStack}
 use Rattle.cli.specs.Flat.{TellsFlat}
 use Rattle.together.specs.declared.way.Way.{Way}
 use Rattle.together.specs.declared.way.Way.TheVariants.{Laxest, Strictest}
-use Rattle.cli.specs.Told.{IsManual, IsNoCommand, IsReplayed, NamesLogs, of_none, of_one, of_two, OfArguments, OfBundle, OfBundles, OfEach, TellsFilter}
+use Rattle.cli.specs.Told.{IsManual, IsNoCommand, IsReplayed, NamesLogs, of_none, of_one}
+use Rattle.cli.specs.Told.{of_two, OfArguments, OfBundle, OfBundles, OfEach, TellsFilter}
 use Rattle.cli.specs.Widened.{TellsWidened, from_in, rest_of}
 use Rattle.cli.specs.Written.{NamesForm, WritesMade}
 use Rattle.cli.specs.Files.{CannotBeRead, Folder, HasBundle, HasBytes, HasEnough, HasFilter}
@@ -207,7 +208,8 @@ module _ {O : Type 0} (held : O → Option (List ℕ)) (failures : O → Failure
   abbrev pub ExportsTurned : Arch → List ℕ → Form → Result Bool Stop → Type 0
   ExportsTurned native bundle form result =
       ((result ≡ Err OutOfMemory) × (new ≡ old))
-      ⊎ ((told : Told) × TellsExported native form bundle told × TellsObjects held failures old new told.bytes.items (Ok (was_done told.end)) result)
+      ⊎ ((told : Told) × TellsExported native form bundle told × TellsObjects held failures old new told.bytes.items
+          (Ok (was_done told.end)) result)
 
   abbrev pub ExportsFor : Bool → Arch → List ℕ → Form → Result Bool Stop → Type 0
   ExportsFor true native bundle form result = ExportsTurned native bundle form result

@@ -61,7 +61,8 @@ kept_stop OutOfMemory = OutOfMemory
 kept_stop Refused = Refused
 kept_stop Doubtful = Doubtful
 
--- The objects of an answer that the command gave, also of one that what was given is refused, or is doubtful. Else the program stops, and none is written.
+-- The objects of an answer that the command gave, also of one that what was given is refused, or is doubtful. Else the program
+-- stops, and none is written.
 abbrev pub WritesObjects : {O : Type 0} → (O → Option (List ℕ)) → (O → Failures) → O → O → Command → List ℕ → List ℕ → Result Bool Stop
     → Result Bool Stop → Type 0
 WritesObjects held failures old new command name answer (Ok true) result =

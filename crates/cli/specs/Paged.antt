@@ -15,7 +15,8 @@ use Rattle.cli.specs.Exported.{TellsExported}
 pub record DrawsExport (native : Arch) (bundle : List ℕ) (graph : Told) : Type 0 where
   pub file : Told
   pub exported : TellsExported native Raw bundle file
-  pub drawn : ((was_done file.end ≡ false) × (graph ≡ file)) ⊎ ((was_done file.end ≡ true) × IsDrawn (read_as native file.bytes.items) graph)
+  pub drawn : ((was_done file.end ≡ false) × (graph ≡ file))
+      ⊎ ((was_done file.end ≡ true) × IsDrawn (read_as native file.bytes.items) graph)
 
 -- what a page shows of a bundle
 abbrev pub side_of : List ℕ → Told → Told → Side

@@ -38,4 +38,5 @@ pub record IsWidened (native : Arch) (file : List ℕ) (texts : List (List ℕ))
   pub both : IsCombined native Laxest (learned ∷ bundle ∷ []) made
 
 abbrev pub TellsWidened : Arch → List ℕ → List (List ℕ) → Option Runtime → Otherwise → Told → Type 0
-TellsWidened native file texts runtime otherwise told = was_done told.end ≡ true → IsWidened native file texts runtime otherwise told.bytes.items
+TellsWidened native file texts runtime otherwise told = was_done told.end ≡ true
+    → IsWidened native file texts runtime otherwise told.bytes.items

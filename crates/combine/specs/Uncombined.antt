@@ -6,7 +6,7 @@ use Rattle.profile.specs.Policy.{Policy}
 use Rattle.recover.specs.Recovered.{IsRecovered}
 use Rattle.recover.specs.Unsaid.{IsUnsaid}
 use Rattle.together.specs.Combined.{IsBundle}
-use Rattle.together.specs.OnCall.{IsCrowded}
+use Rattle.together.specs.OnCall.{MayBeLeft}
 use Rattle.together.specs.Together.{IsUnlike}
 use Rattle.together.specs.Unjudged.{IsFirstRefused, IsRefused}
 use Rattle.together.specs.declared.bundles.Unjudged.{Unjudged}
@@ -34,7 +34,7 @@ IsUndrafted native ps why.OutOfMemory = ⊤
 IsUndrafted native ps other = ⊥
 
 -- What a reason says of bundles. There are none, or one is refused. Or what was written is refused, says another verdict of a record than
--- counts of their profiles' verdicts, or has a call with too many combinations. That no section was found says nothing.
+-- counts of their profiles' verdicts, or has a call that is crowded or has too many combinations. That no section was found says nothing.
 abbrev pub IsUncombined : Arch → Way → List (List ℕ) → Uncombined → Type 0
 IsUncombined native way bundles why.Nothing = bundles ≡ []
 IsUncombined native way bundles (why.Refused place error) = IsFirstRefused native bundles place error
@@ -44,7 +44,7 @@ IsUncombined native way bundles (why.Unread error) = (made : List ℕ) × IsRefu
 IsUncombined native way bundles (why.Unlike found) =
     (ps : List Policy) × AllZip (IsBundle native) bundles ps × ((q : Policy) × IsUnlike way ps q found)
 IsUncombined native way bundles (why.Crowded call) =
-    (ps : List Policy) × AllZip (IsBundle native) bundles ps × ((q : Policy) × IsCrowded ps q call)
+    (ps : List Policy) × AllZip (IsBundle native) bundles ps × ((q : Policy) × MayBeLeft ps q call)
 IsUncombined native way bundles why.TooLong = ⊤
 IsUncombined native way bundles why.OutOfMemory = ⊤
 

@@ -31,7 +31,8 @@ AreLikeAsDecided p direction = AllAreLike p direction ⊎ IsLeftOpen p direction
 
 -- Why a bundle gets no hint. It is refused for a fault that it has. Or its profile has no unlike call, as far as it is decided.
 pub data IsUnhinted (native : Arch) (bundle : List ℕ) (direction : Direction) : Type 0 where
-  refused : (error : ProfileError) → error ≢ OutOfMemory → IfSome (fault_of error) (Breaks bundle native) → IsUnhinted native bundle direction
+  refused : (error : ProfileError) → error ≢ OutOfMemory → IfSome (fault_of error) (Breaks bundle native)
+      → IsUnhinted native bundle direction
   decided : (p : Policy) → IsBundle native bundle p → AreLikeAsDecided p direction → IsUnhinted native bundle direction
 
 -- what a hint tells is so: of the calls that get past, and of those that are stopped

@@ -131,7 +131,8 @@ past_lines way family rules ends past = unlike_line way family rules ends past +
 abbrev pub count_text : Way → ℕ → List ℕ
 count_text GetsPast count = if count == 1 then codes " call gets past\n" else codes " calls get past\n"
 count_text IsStopped count =
-    if count == 1 then codes " call is stopped by bits that Linux does not read\n" else codes " calls are stopped by bits that Linux does not read\n"
+    if count == 1 then codes " call is stopped by bits that Linux does not read\n"
+        else codes " calls are stopped by bits that Linux does not read\n"
 
 abbrev pub count_line : Way → ℕ → List ℕ
 count_line way count = decimal count ++ count_text way count
@@ -149,7 +150,8 @@ crowded_line call = codes "undecided TooLarge " ++ call_text call.arch call.nr +
 -- what was found, beside the rules of a bundle's entries
 abbrev pub found_text : Family → List Rule → List ℕ → Finding → List ℕ
 found_text family rules ends Nothing = codes "nothing gets past\n"
-found_text family rules ends (Unlike past stopped) = list_text GetsPast family rules ends past.items ++ list_text IsStopped family rules ends stopped.items
+found_text family rules ends (Unlike past stopped) = list_text GetsPast family rules ends past.items
+    ++ list_text IsStopped family rules ends stopped.items
 found_text family rules ends (Undecided past stopped crowded) =
     flat_map (past_lines GetsPast family rules ends) past.items
     ++ flat_map (past_lines IsStopped family rules ends) stopped.items ++ flat_map crowded_line crowded.items

@@ -1,5 +1,6 @@
 -- What two profiles say of the records of one call.
-use Rattle.std.specs.Prelude.{◌≡◌, ℕ, zero, suc, ◌+◌, ◌<◌, ◌*◌, ◌==◌, ◌&&◌, ◌||◌, ◌++◌, ⊤, not, Bool, false, true, if◌then◌else◌, List, length, filter}
+use Rattle.std.specs.Prelude.{◌≡◌, ℕ, zero, suc, ◌+◌, ◌<◌, ◌*◌, ◌==◌, ◌&&◌, ◌||◌}
+use Rattle.std.specs.Prelude.{◌++◌, ⊤, not, Bool, false, true, if◌then◌else◌, List, length, filter}
 use Rattle.std.specs.Int.{bit_at}
 use Rattle.std.specs.List.{flat_map, list_all, list_any}
 use Rattle.call_record.specs.Words.{IsRecord, word}

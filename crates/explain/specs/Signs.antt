@@ -1,5 +1,6 @@
 -- What the words of a line of a kernel's audit say of the line besides the fields that are read.
-use Rattle.std.specs.Prelude.{ℕ, ◌==◌, ◌||◌, not, Bool, true, false, if◌then◌else◌, List, [], ◌∷◌, Option, Some, None, codes, is_some, length}
+use Rattle.std.specs.Prelude.{ℕ, ◌==◌, ◌||◌, not, Bool, true, false, if◌then◌else◌}
+use Rattle.std.specs.Prelude.{List, [], ◌∷◌, Option, Some, None, codes, is_some, length}
 use Rattle.texts.specs.Splits.{behind}
 use Rattle.explain.specs.declared.audited.signs.Signs.{Signs}
 use Rattle.explain.specs.declared.audited.signs.Times.{Times}

@@ -73,7 +73,8 @@ pub record WritesFilter {S : Type 0} (held : S → Option (List ℕ)) (failures 
   pub told : IfOk result (λ done. done ≡ true)
 
 -- what was written is the line that says why there is none, and the answer is false
-pub record WritesMakeError {S : Type 0} (held : S → Option (List ℕ)) (failures : S → Failures) (old new : S) (native : Arch) (bundle : List ℕ)
+pub record WritesMakeError {S : Type 0} (held : S → Option (List ℕ)) (failures : S → Failures)
+    (old new : S) (native : Arch) (bundle : List ℕ)
     (result : Result Bool WriteFault) : Type 0 where
   pub make_error : MakeError
   pub is : IsMakeError native bundle make_error

@@ -31,8 +31,8 @@ fn by_paths(
     }
 }
 
-// A certificate of a filter in which questions for bits of one word were put together: from its outline, or else one that
-// follows each path.
+// A certificate of a filter in which questions for bits of one word were put together: from its outline, or one that follows each path if
+// the filter is another one. Where that of the outline came out too large, one that follows each path would be larger.
 fn of_merged(
     alloc: Global,
     profile: &Profile,
@@ -42,7 +42,8 @@ fn of_merged(
 ) -> Result<Vec<u8>, CertifyError> {
     match by_merged(alloc, profile, *accepted, outline) {
         Ok(Hand::Certificate(bytes)) => Ok(bytes),
-        Ok(_) => by_paths(alloc, profile, accepted, own),
+        Ok(Hand::TooLarge) => Err(CertifyError::TooLarge),
+        Ok(Hand::Nothing) => by_paths(alloc, profile, accepted, own),
         Err(error) => Err(error),
     }
 }

@@ -10,11 +10,9 @@ use cert_form::{Kind, MAX_LITERALS};
 use profile::Profile;
 use std::alloc::Global;
 
-// A certificate of more bytes is made with calls told apart early as well: it has some thousand nodes.
+// A certificate of more bytes is made with calls told apart early as well: it has some thousand nodes. It is looked at for how much it
+// states, too: to state less takes several times as long as to check more.
 const LARGE: usize = 0x4_0000;
-
-// A certificate of more bytes is looked at for how much it states.
-const MIDDLING: usize = 0x1_0000;
 
 // All nodes of a certificate; and the certificate in which each states all that is known there, if that has room.
 #[derive(Drop)]
@@ -76,7 +74,7 @@ fn finished(drafted: Drafted<'_>) -> Result<Vec<u8>, OutlineError> {
     let Some(written) = written else {
         return kept_nodes(&maker, &kinds, &order);
     };
-    if !written.states_much || written.bytes.len() <= MIDDLING {
+    if !written.states_much || written.bytes.len() <= LARGE {
         return Ok(written.bytes);
     }
     match kept_nodes(&maker, &kinds, &order) {

@@ -77,32 +77,88 @@ fn cut_of_open<K: Knowledge>(known: &Told<'_, K>, narrow: bool, cond: &Cond) -> 
     cut_of_free(known.words, cond, false)
 }
 
-// What is known of a rule that is not out: how many bits for which its open conditions ask are not known, and where the first of these
-// conditions is cut.
-#[derive(Clone, Copy)]
-struct Openness {
-    bits: u32,
-    cut: Option<Cut>,
+// Whether bits of a word are those of which a condition asks, if that is known. Where no range of the word is stated, the checker's rule needs
+// no range.
+fn answer_to_bits<K: Knowledge>(
+    known: &Told<'_, K>,
+    word: u8,
+    mask: u32,
+    datum: u32,
+) -> Option<bool> {
+    let (told, bits) = known.words.bits_at(word);
+    if told & mask & (bits ^ datum) != 0 {
+        return Some(false);
+    }
+    if told & mask == mask {
+        return Some(true);
+    }
+    let mut has_range = false;
+    for literal in known.words.whole.iter().chain(known.words.masked.iter()) {
+        match *literal {
+            Lit::NotBits(of, under, other)
+                if of == word && under & mask == under && datum & under == other => {
+                return Some(false);
+            }
+            Lit::In(of, _, _) if of == word => has_range = true,
+            _ => {}
+        }
+    }
+    if has_range && known.entail(Lit::NotBits(word, mask, datum)) {
+        return Some(false);
+    }
+    None
 }
 
-// How open a rule is, if it is not out.
-fn how_open<K: Knowledge>(known: &Told<'_, K>, rule: &Rule) -> Option<Openness> {
+// Whether a half of a condition's argument has the bits of which it asks, if that is known.
+fn answer_to_half<K: Knowledge>(known: &Told<'_, K>, cond: &Cond, is_high: bool) -> Option<bool> {
+    let low = low_word(cond);
+    let (mask, datum) = bits_of(cond, is_high);
+    answer_to_bits(known, if is_high { low + 1 } else { low }, mask, datum)
+}
+
+// By all that is known, whether a condition holds.
+fn answer_to<K: Knowledge>(known: &Told<'_, K>, narrow: bool, cond: &Cond) -> Answer {
+    if cond.op != Op::MaskedEq {
+        return by_all(known, narrow, cond);
+    }
+    let high_half = if narrow {
+        Some(bits_of(cond, true).1 == 0)
+    } else {
+        answer_to_half(known, cond, true)
+    };
+    match (high_half, answer_to_half(known, cond, false)) {
+        (Some(false), _) | (_, Some(false)) => Answer::No,
+        (Some(true), Some(true)) => Answer::Yes,
+        _ => Answer::Open,
+    }
+}
+
+// How many bits for which open conditions of a rule ask are not known, if the rule is not out.
+fn count_of_open<K: Knowledge>(known: &Told<'_, K>, rule: &Rule) -> Option<u32> {
     let narrow = rule.is_narrow();
-    let mut open = Openness { bits: 0, cut: None };
+    let mut count = 0u32;
     for cond in rule.conds.iter() {
-        let answer = by_all(known, narrow, cond);
-        if answer == Answer::No {
-            return None;
+        match answer_to(known, narrow, cond) {
+            Answer::No => return None,
+            Answer::Yes => {}
+            _ => count = count.saturating_add(count_of_free(known.words, narrow, cond)),
         }
-        if answer != Answer::Yes {
-            let count = count_of_free(known.words, narrow, cond);
-            open.bits = open.bits.saturating_add(count);
-            if open.cut.is_none() {
-                open.cut = cut_of_open(known, narrow, cond);
+    }
+    Some(count)
+}
+
+// Where the first open condition of a rule is cut.
+fn cut_of_rule<K: Knowledge>(known: &Told<'_, K>, rule: &Rule) -> Option<Cut> {
+    let narrow = rule.is_narrow();
+    for cond in rule.conds.iter() {
+        if answer_to(known, narrow, cond) != Answer::Yes {
+            let cut = cut_of_open(known, narrow, cond);
+            if cut.is_some() {
+                return cut;
             }
         }
     }
-    Some(open)
+    None
 }
 
 // A bit is told of which it is not known what it is, of those that are known to be no number or to lie in a range.
@@ -151,8 +207,8 @@ impl<'a> Maker<'a> {
             let Some(rule) = self.rule(own.rule) else {
                 continue;
             };
-            match how_open(known, rule) {
-                Some(open) if open.bits == 0 && verdict == Some(rule.word.0) => {
+            match count_of_open(known, rule) {
+                Some(0) if verdict == Some(rule.word.0) => {
                     let holding = LeftRule {
                         rule: own.rule,
                         met: all_bits(rule),
@@ -189,38 +245,41 @@ impl<'a> Maker<'a> {
     }
 
     // Where what is known is cut for the sake of the rule of which the fewest bits are not known. If the verdict is the default, it is a
-    // rule of another one that is to be out, and else a rule of this one that is to hold. The answer is nothing if all is settled.
+    // rule of another one that is to be out, and else a rule of this one that is to hold. There is none if all is settled, and no cut if no
+    // rule can be cut.
     fn cut_of_nearest<K: Knowledge>(
         &self,
         known: &Told<'_, K>,
         left: &Left,
         verdict: u32,
-    ) -> Option<Openness> {
+    ) -> Option<Option<Cut>> {
         let is_default = verdict == self.profile.default_word().0;
-        let mut nearest = Openness {
-            bits: u32::MAX,
-            cut: None,
-        };
         let mut is_settled = is_default;
-        for own in &left.rules {
-            let Some(rule) = self.rule(own.rule) else {
-                continue;
-            };
-            let Some(open) = how_open(known, rule) else {
-                continue;
-            };
-            let is_same = rule.word.0 == verdict;
-            if is_same && open.bits == 0 {
-                return None;
-            }
-            if is_same != is_default {
-                is_settled = false;
-                if open.cut.is_some() && open.bits < nearest.bits {
-                    nearest = open;
+        let mut fewest = u32::MAX;
+        let mut best = None;
+        for own in left.rules.iter().rev() {
+            if let Some(rule) = self.rule(own.rule)
+                && let Some(count) = count_of_open(known, rule)
+            {
+                let is_same = rule.word.0 == verdict;
+                if is_same && count == 0 {
+                    return None;
+                }
+                if is_same != is_default {
+                    is_settled = false;
+                    if count < fewest
+                        && let Some(cut) = cut_of_rule(known, rule)
+                    {
+                        fewest = count;
+                        best = Some(cut);
+                    }
                 }
             }
+            if fewest == 1 {
+                break;
+            }
         }
-        if is_settled { None } else { Some(nearest) }
+        if is_settled { None } else { Some(best) }
     }
 
     /// Where what is known of a spot is cut at a return, until one rule holds or all are out. Where none is open, the spot is dead once the
@@ -239,12 +298,11 @@ impl<'a> Maker<'a> {
         }
         let all = known.all(self.alloc)?;
         let state = listed(&all);
-        Ok(
-            match self.cut_of_nearest(&known.told_by_all(&state), left, verdict) {
-                Some(Openness { cut: None, .. }) => cut_of_excluded(known),
-                Some(nearest) => nearest.cut,
-                None => None,
-            },
-        )
+        let found = self.cut_of_nearest(&known.told_by_all(&state), left, verdict);
+        Ok(match found {
+            Some(None) => cut_of_excluded(known),
+            Some(cut) => cut,
+            None => None,
+        })
     }
 }

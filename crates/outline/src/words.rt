@@ -96,7 +96,7 @@ impl Words {
         }
     }
 
-    /// The same, with what all its literals are asked of.
+    /// The literals of whole words, and knowledge that all literals are asked of.
     pub(crate) fn told_by_all<'a, K: Knowledge>(&'a self, all: &'a K) -> Told<'a, K> {
         Told {
             words: self,
@@ -126,7 +126,7 @@ impl Words {
         (known, bits)
     }
 
-    /// The same, where one literal tells all bits of a word that are known, and none tells what follows from these.
+    /// These literals in short: one for all known bits of a word, and none that follows from these.
     pub(crate) fn in_short(&self, alloc: Global) -> Result<Words, AllocError> {
         let mut words = Words::none(alloc);
         for literal in self.whole.iter().chain(self.masked.iter()) {
@@ -151,7 +151,7 @@ impl Words {
         Ok(())
     }
 
-    // The same, if it is not there.
+    // Adds a literal unless it is there.
     fn add_once(&mut self, literal: Lit) -> Result<(), AllocError> {
         if self.whole.contains(&literal) || self.masked.contains(&literal) {
             return Ok(());

@@ -94,9 +94,13 @@ impl Field {
         self.bits != 0 && self.bits != self.mask
     }
 
-    // Whether masks of all bits from one up are chosen, if they are as few. Where numbers are compared, too, these are likely.
-    fn is_from_highest(&self, taste: Taste) -> bool {
-        self.bits != 0 && self.is_mixed() == (taste == Taste::First)
+    // Whether masks of all bits from one up are tried beside conditions, of which so many are under masks. Where numbers are compared, too,
+    // they are likely. Where no mask is compared they are tried second.
+    fn is_from_highest(&self, taste: Taste, masks: usize) -> bool {
+        if self.bits == 0 {
+            return taste == Taste::Second && masks > 0;
+        }
+        self.is_mixed() == (taste == Taste::First)
     }
 }
 
@@ -339,6 +343,19 @@ fn shorter(first: Option<Vec<Cond>>, other: Option<Vec<Cond>>) -> Option<Vec<Con
     }
 }
 
+// How many of conditions are under a mask.
+fn masks_of(found: &Option<Vec<Cond>>) -> usize {
+    let mut count = 0usize;
+    if let Some(list) = found {
+        for cond in list {
+            if cond.op == Op::MaskedEq {
+                count = count.saturating_add(1);
+            }
+        }
+    }
+    count
+}
+
 /// Conditions of which one holds of each number that is needed, and none of a number that is not allowed. None if there are none among
 /// those that are tried.
 pub(crate) fn covering(
@@ -349,13 +366,17 @@ pub(crate) fn covering(
     taste: Taste,
 ) -> Result<Option<Vec<Cond>>, Stopped> {
     let field = field_of(alloc, argument, aim)?;
-    work.has_choice |= field.bits != 0;
     let fits = plain_fits(alloc, work, argument, &field)?;
     let needed = needed(alloc, argument, aim)?;
     let few = chosen(alloc, work, (&field, false), &fits, &needed)?;
-    if !field.is_from_highest(taste) {
+    let masks = masks_of(&few);
+    work.has_choice |= field.bits != 0 || masks > 0;
+    if !field.is_from_highest(taste, masks) {
         return Ok(few);
     }
     let highest = chosen(alloc, work, (&field, true), &fits, &needed)?;
+    if field.bits == 0 && highest.is_some() {
+        return Ok(highest);
+    }
     Ok(shorter(highest, few))
 }

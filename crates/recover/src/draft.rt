@@ -1,7 +1,7 @@
 //! What is written of a filter before it is judged.
 use crate::covering::Taste;
 use crate::entries::entries_of;
-use crate::machine_tests::{default_of, machines_of, refuse_others};
+use crate::machine_branches::{default_of, machines_of, refuse_others};
 use crate::names::names_of;
 use crate::passed::Passed;
 use crate::text::{bundle_of, is_given};

@@ -14,7 +14,7 @@ mod draft;
 mod entries;
 mod law;
 mod leaves;
-mod machine_tests;
+mod machine_branches;
 mod marks;
 mod masking;
 mod names;

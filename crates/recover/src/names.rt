@@ -2,7 +2,7 @@
 use crate::calls::{Heard, hear, leaves_of};
 use crate::covering::Taste;
 use crate::leaves::Called;
-use crate::machine_tests::Listed;
+use crate::machine_branches::Listed;
 use crate::said::Said;
 use crate::unlike::{Side, unlike};
 use crate::unsaid::Unsaid;

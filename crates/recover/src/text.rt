@@ -3,7 +3,7 @@ ghost use Rattle.std.specs.Prelude.{◌≡◌, is_some};
 ghost use Rattle.recover.specs.Unsaid.{can_be_said, has_action, takes_data};
 
 use crate::entries::Entry;
-use crate::machine_tests::Listed;
+use crate::machine_branches::Listed;
 use call_record::Word;
 use profile::{Cond, Op};
 use profile_json::{key, operator_name};

@@ -6,7 +6,8 @@ use Rattle.machines.specs.declared.arch.Family.TheVariants.{Chosen, Whole}
 use Rattle.machines.specs.Arch.{family_of}
 use Rattle.section.specs.Texts.{IsKind}
 use Rattle.section.specs.declared.kinds.Kind.{Kind}
-use Rattle.section.specs.declared.kinds.Kind.TheVariants.{Bundle, Section, EnginesOwn, Kubernetes, KubernetesList, Yaml, NoConfig, Unlike, Large}
+use Rattle.section.specs.declared.kinds.Kind.TheVariants.{Bundle, Section, EnginesOwn, Kubernetes}
+use Rattle.section.specs.declared.kinds.Kind.TheVariants.{KubernetesList, Yaml, NoConfig, Unlike, Large}
 
 -- the line that says what a text of a kind is, if it is neither a bundle nor a section
 abbrev pub line_of : Kind → Option (List ℕ)

@@ -9,7 +9,8 @@ use Rattle.profile_json.specs.Meaning.{IsText}
 use Rattle.section.specs.Kinds.{kind_of, kind_of_other_text}
 use Rattle.section.specs.Unlike.{AreLinesOf, IsLarge, IsReadable}
 use Rattle.section.specs.declared.kinds.Kind.{Kind}
-use Rattle.section.specs.declared.kinds.Kind.TheVariants.{Bundle, Section, EnginesOwn, Kubernetes, KubernetesList, Yaml, NoConfig, Unlike, Large}
+use Rattle.section.specs.declared.kinds.Kind.TheVariants.{Bundle, Section, EnginesOwn, Kubernetes}
+use Rattle.section.specs.declared.kinds.Kind.TheVariants.{KubernetesList, Yaml, NoConfig, Unlike, Large}
 
 -- all readers take the text alike, or they do not
 abbrev pub IsAlikeText : List ℕ → Type 0

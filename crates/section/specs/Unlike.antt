@@ -1,6 +1,8 @@
--- What readers of a text do not take alike: runtimes and engines. Readers in Go pass over upper and lower case, take U+017F for s and U+212A for k,
+-- What readers of a text do not take alike: runtimes and engines. Readers in Go pass over upper and lower case, take U+017F for
+-- s and U+212A for k,
 -- and merge what stands twice. Readers in C end a key at U+0000, and take the first of two.
-use Rattle.std.specs.Prelude.{ℕ, ◌≡◌, ◌<◌, ◌≤◌, ◌+◌, ◌==◌, ◌&&◌, ◌⊎◌, Bool, true, false, List, [], ◌∷◌, ◌++◌, codes, count_by, if◌then◌else◌, length, nat_lt}
+use Rattle.std.specs.Prelude.{ℕ, ◌≡◌, ◌<◌, ◌≤◌, ◌+◌, ◌==◌, ◌&&◌, ◌⊎◌, Bool, true}
+use Rattle.std.specs.Prelude.{false, List, [], ◌∷◌, ◌++◌, codes, count_by, if◌then◌else◌, length, nat_lt}
 use Rattle.std.specs.Fmt.{decimal}
 use Rattle.std.specs.List.{flat_map, list_all}
 use Rattle.std.specs.Str.{bytes_eq, str_eq_ignore_ascii_case}

@@ -6,6 +6,7 @@
 mod beside;
 mod equal;
 mod kinds;
+mod large;
 mod reading;
 mod remarks;
 mod taken;
@@ -15,9 +16,10 @@ mod writing;
 
 pub use beside::beside_of;
 pub use kinds::{Kind, kind_of};
+pub use large::{MOST_BYTES, is_large};
 pub use reading::{bundle_text, kind_of_text, put_in_bundle};
 pub use remarks::{line_of, remark_of};
 pub use taken::{Taken, take};
-pub use unlike::{MOST_BYTES, is_large, unlike_of};
+pub use unlike::unlike_of;
 pub use unread::{ARGUMENT_KEYS, ENTRY_KEYS, SECTION_KEYS, unread_of};
 pub use writing::{keeps_meaning, section_of};

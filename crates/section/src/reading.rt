@@ -5,7 +5,8 @@ ghost use Rattle.section.specs.Texts as spec;
 ghost use Rattle.section.specs.Texts.{IsBundleText, IsKind, IsPlainKind, IsReadKind, in_bundle};
 
 use crate::kinds::{Kind, kind_of, kind_of_other_text};
-use crate::unlike::{is_large, lines_of};
+use crate::large::is_large;
+use crate::unlike::lines_of;
 use machines::{Arch, Family};
 use serde_json::Value;
 use std::alloc::{AllocError, Global};

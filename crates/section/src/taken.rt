@@ -7,8 +7,9 @@ ghost use Rattle.section.specs.Texts.{IsPlainKind, bundle_of};
 ghost use Rattle.section.specs.Unlike.{AreLinesOf, IsReadable};
 
 use crate::kinds::{Kind, kind_of, kind_of_other_text};
+use crate::large::is_large;
 use crate::reading::put_in_bundle;
-use crate::unlike::{is_large, lines_of};
+use crate::unlike::lines_of;
 use machines::{Arch, Family};
 use profile_json::{Document, ProfileError};
 use std::alloc::{AllocError, Global};
@@ -93,7 +94,7 @@ fn take_whole(alloc: Global, native: Arch, bytes: Vec<u8>) -> Result<Taken, Allo
     take_read(alloc, native, bytes)
 }
 
-// The same of one that is not too large.
+// What a text is that is not too large, with its document.
 fn take_read(alloc: Global, native: Arch, bytes: Vec<u8>) -> Result<Taken, AllocError>
     requires family { family_of native ≡ Whole }
     requires small { IsReadable bytes.items }

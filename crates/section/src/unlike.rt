@@ -1,5 +1,5 @@
 //! What runtimes and engines do not take alike in a text: keys that stand twice or otherwise, and a section beside `linux`.
-ghost use Rattle.std.specs.Prelude.{◌≡◌, ◌++◌, IfOk, count_by, false, map, string_bytes, true};
+ghost use Rattle.std.specs.Prelude.{◌≡◌, ◌++◌, IfOk, count_by, map, string_bytes};
 ghost use Rattle.machines.specs.declared.arch.Family.TheVariants.{Whole};
 ghost use Rattle.std.specs.Str.{bytes_eq, str_eq_ignore_ascii_case};
 ghost use Rattle.json.specs.Value.{value_view};
@@ -7,6 +7,7 @@ ghost use Rattle.section.specs.Members as members;
 ghost use Rattle.section.specs.Unlike as spec;
 ghost use Rattle.section.specs.Unread.{argument_keys};
 
+use crate::large::is_large;
 use crate::unread::{ARGUMENT_KEYS, list_of, members_of, put_line};
 use json::{Error, Scratch, Value};
 use machines::{Arch, Family};
@@ -382,17 +383,6 @@ pub(crate) fn lines_of(alloc: Global, bytes: &[u8]) -> Result<Vec<u8>, AllocErro
         Err(Error::Invalid) => Ok(Vec::new(alloc)),
         Err(_no_memory) => Err(AllocError),
     }
-}
-
-/// The most bytes of a text that is read.
-pub const MOST_BYTES: usize = 4_194_304;
-
-/// Whether a text has more bytes than are read.
-pub fn is_large(bytes: &[u8]) -> bool
-    ensures large { result ≡ true → spec.IsLarge bytes.now }
-    ensures small { result ≡ false → spec.IsReadable bytes.now }
-{
-    bytes.len() > MOST_BYTES
 }
 
 // The lines of a text, if it is read.

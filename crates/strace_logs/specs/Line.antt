@@ -1,7 +1,8 @@
 -- Which call a line of a log tells that `strace -n -e raw=all` wrote (strace(1)). It is its number, its name and its
 -- arguments. Such a line is `22463 [ 257] openat(0xffffff9c, 0x7f3c133b60b1, 0x80000, 0) = 0x3`, for example. Where another
 -- process made a line before the call was over, ` <unfinished ...>` stands in the place of `)`.
-use Rattle.std.specs.Prelude.{ℕ, ◌==◌, ◌&&◌, ◌||◌, ◌^◌, length, is_some, nat_lt, Bool, true, false, if◌then◌else◌, List, [], ◌∷◌, Option, Some, None, codes, find}
+use Rattle.std.specs.Prelude.{ℕ, ◌==◌, ◌&&◌, ◌||◌, ◌^◌, length, is_some, nat_lt, Bool, true}
+use Rattle.std.specs.Prelude.{false, if◌then◌else◌, List, [], ◌∷◌, Option, Some, None, codes, find}
 use Rattle.std.specs.Prelude.{option_and_then}
 use Rattle.std.specs.Str.{is_utf8}
 use Rattle.texts.specs.Lines.{space}

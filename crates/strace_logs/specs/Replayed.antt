@@ -88,7 +88,8 @@ fate_text left = if left then codes "left " else codes "refused "
 -- the call, the verdict and why
 abbrev pub call_text : Refused → List ℕ
 call_text x =
-    fate_text (is_left x.verdict) ++ name_of x.arch x.nr ++ codes ", number " ++ decimal x.nr ++ codes " of " ++ machine_name x.arch ++ codes ": "
+    fate_text (is_left x.verdict) ++ name_of x.arch x.nr ++ codes ", number " ++ decimal x.nr
+        ++ codes " of " ++ machine_name x.arch ++ codes ": "
     ++ action_text x.verdict ++ codes ", "
 
 abbrev pub times_text : ℕ → List ℕ
@@ -140,7 +141,8 @@ TextIsThrough native p text = All (LineIsThrough native p) (lines_of text)
 pub record RefusesLog (native : Arch) (logs : List (List ℕ × List ℕ)) (told : Told) : Type 0 where
   pub name : List ℕ
   pub first : first_none native logs ≡ Some name
-  pub tells : RefusesBy (codes "refused log " ++ name ++ codes ": it is no log of strace -f -n -e raw=all: no line tells a call, or one has an argument that is no number") told
+  pub tells : RefusesBy (codes "refused log " ++ name
+      ++ codes ": it is no log of strace -f -n -e raw=all: no line tells a call, or one has an argument that is no number") told
 
 -- The logs were played through the profile that the bundle means. It is done if each record is carried out and each line is read, and no
 -- otherwise.

@@ -7,7 +7,7 @@ use Rattle.profile.specs.Policy.{Policy}
 use Rattle.profile.specs.Rule.{argument_of}
 use Rattle.profile.specs.Said.{said}
 use Rattle.differ.specs.Cells.{AreAlike, AreCells, AreTooMany}
-use Rattle.differ.specs.OnCall.{IsOfCall, bits_of, conditions_on, is_for, most_combinations, rules_for}
+use Rattle.differ.specs.OnCall.{AreCrowded, IsOfCall, bits_of, conditions_on, is_for, most_combinations, rules_for}
 use Rattle.differ.specs.Named.{is_named}
 use Rattle.differ.specs.declared.listed.Unlisted.{Unlisted}
 use Rattle.differ.specs.declared.listed.Unlisted.TheVariants.{TooMany, OutOfMemory}
@@ -48,6 +48,14 @@ abbrev pub IsCrowded : List Policy → Policy → Call → Type 0
 IsCrowded ps q call =
     ((j : ℕ) × (n : ℕ) × AreWays ps q call j n × (most_combinations < n))
     ⊎ ((j : ℕ) × AreTooMany (conditions_of ps q call j) (bits_of call.token))
+
+-- one of the profiles and q are crowded on the call
+abbrev pub IsCrowdedBeside : List Policy → Policy → Call → Type 0
+IsCrowdedBeside ps q call = (p : Policy) × Contains ps p × AreCrowded p q call.token call.nr
+
+-- the call may be left undecided
+abbrev pub MayBeLeft : List Policy → Policy → Call → Type 0
+MayBeLeft ps q call = IsCrowdedBeside ps q call ⊎ IsCrowded ps q call
 
 -- why there are no samples
 abbrev pub AreUnsampled : List Policy → Policy → Call → Unlisted → Type 0

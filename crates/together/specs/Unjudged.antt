@@ -7,7 +7,7 @@ use Rattle.profile_json.specs.Breaks.{Breaks}
 use Rattle.profile_json.specs.Fault.{Fault, fault_of}
 use Rattle.profile_json.specs.declared.fault.ProfileError.{ProfileError}
 use Rattle.together.specs.Combined.{IsBundle}
-use Rattle.together.specs.OnCall.{IsCrowded}
+use Rattle.together.specs.OnCall.{MayBeLeft}
 use Rattle.together.specs.Together.{IsUnlike}
 use Rattle.together.specs.declared.bundles.Unjudged.{Unjudged}
 use Rattle.together.specs.declared.bundles.Unjudged.TheVariants.{Refused, Unread, Unlike, Crowded, OutOfMemory}
@@ -35,16 +35,16 @@ AreUnread native bundles (Unlike found) = ⊥
 AreUnread native bundles (Crowded call) = ⊥
 AreUnread native bundles OutOfMemory = ⊤
 
--- why it is not settled: too many combinations, or there is not enough memory
+-- why it is not settled: a call is crowded or has too many combinations, or there is not enough memory
 abbrev pub IsUnsettled : List Policy → Policy → unsettled.Unsettled → Type 0
-IsUnsettled ps q (why.Crowded call) = IsCrowded ps q call
+IsUnsettled ps q (why.Crowded call) = MayBeLeft ps q call
 IsUnsettled ps q why.OutOfMemory = ⊤
 
--- Why a bundle is not handed out that was made of profiles. It is refused, or it says another verdict of a record, or a call has too
--- many combinations, or there is not enough memory.
+-- Why a bundle is not handed out that was made of profiles. It is refused, or it says another verdict of a record, or a call is crowded or
+-- has too many combinations, or there is not enough memory.
 abbrev pub IsUnjudged : Arch → Way → List Policy → List ℕ → Unjudged → Type 0
 IsUnjudged native way ps bundle (Refused place error) = ⊥
 IsUnjudged native way ps bundle (Unread error) = IsRefused native bundle error
 IsUnjudged native way ps bundle (Unlike found) = (q : Policy) × IsBundle native bundle q × IsUnlike way ps q found
-IsUnjudged native way ps bundle (Crowded call) = (q : Policy) × IsBundle native bundle q × IsCrowded ps q call
+IsUnjudged native way ps bundle (Crowded call) = (q : Policy) × IsBundle native bundle q × MayBeLeft ps q call
 IsUnjudged native way ps bundle OutOfMemory = ⊤

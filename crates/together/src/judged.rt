@@ -2,24 +2,24 @@
 ghost use Rattle.std.specs.Prelude.{◌≡◌, ℕ, true, IfOk, IfErr, IfNone, IfSome};
 ghost use Rattle.differ.specs.Named.{is_named};
 ghost use Rattle.together.specs.Together.{IsUnlike, SaysTogether};
-ghost use Rattle.together.specs.OnCall.{AgreesOnCall};
+ghost use Rattle.together.specs.OnCall.{AgreesOnCall, IsCrowdedBeside};
 ghost use Rattle.together.specs.Unjudged.{IsUnsettled};
 ghost use Rattle.together.specs.declared.judged.Unsettled.TheVariants.{OutOfMemory};
 
 use crate::calls::named_calls;
 use crate::samples::samples_of;
 use crate::unlike::{Unlike, record_of, unlike_on};
-use crate::walked::{Walked, walk_through};
+use crate::walked::{Walked, may_be_many, walk_through};
 use crate::way::Way;
 use call_record::words_are_a_record;
-use differ::{Call, Steps, Unlisted, all_steps, rest_of};
+use differ::{Call, Steps, Unlisted, all_steps, memory_for, rest_of};
 use profile::Profile;
 use std::alloc::{AllocError, AllocFailed, Global};
 
 /// Why it is not settled.
 #[derive(Clone, Copy, Debug, PartialEq, Eq)]
 pub enum Unsettled {
-    /// The conditions on the arguments of a call can answer in more ways than are looked at.
+    /// A call is crowded, or the conditions on its arguments can answer in more ways than are looked at.
     Crowded(Call),
     /// There is not enough memory.
     OutOfMemory,
@@ -68,6 +68,46 @@ fn unlike_among(
     Ok(None)
 }
 
+// Whether a call is crowded of one of the profiles and one more.
+fn is_crowded_beside(
+    alloc: Global,
+    profiles: &[Profile],
+    joined: &Profile,
+    call: &Call,
+    steps: &mut Steps,
+) -> Result<bool, AllocError>
+    ensures { IfOk result (λ crowded. crowded ≡ true → IsCrowdedBeside profiles.now joined.now call.now) }
+{
+    for profile in profiles {
+        let memory = memory_for(alloc, profile, joined, call.token, call.nr, steps)?;
+        if memory.limited {
+            return Ok(true);
+        }
+    }
+    Ok(false)
+}
+
+// A record of a call on which the verdicts are unlike, unless it is crowded and many numbers stand for others.
+fn unlike_unless_crowded(
+    alloc: Global,
+    way: Way,
+    profiles: &[Profile],
+    joined: &Profile,
+    call: &Call,
+    steps: &mut Steps,
+) -> Result<Option<Unlike>, Unsettled>
+    ensures none { IfOk result (λ found. IfNone found (AgreesOnCall way profiles.now joined.now call.now.token call.now.nr)) }
+    ensures some { IfOk result (λ found. IfSome found (IsUnlike way profiles.now joined.now)) }
+    ensures unsettled { IfErr result (IsUnsettled profiles.now joined.now) }
+{
+    if may_be_many(profiles, joined, call) {
+        if is_crowded_beside(alloc, profiles, joined, call, steps)? {
+            return Err(Unsettled::Crowded(*call));
+        }
+    }
+    unlike_among(alloc, way, profiles, joined, call)
+}
+
 // A record of a call on which the verdicts are unlike.
 fn unlike_in(
     alloc: Global,
@@ -84,7 +124,7 @@ fn unlike_in(
     match walk_through(alloc, way, profiles, joined, call, steps)? {
         Walked::Agrees => Ok(None),
         Walked::Unlike(found) => Ok(Some(found)),
-        Walked::Unknown => unlike_among(alloc, way, profiles, joined, call),
+        Walked::Unknown => unlike_unless_crowded(alloc, way, profiles, joined, call, steps),
     }
 }
 

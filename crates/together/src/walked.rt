@@ -8,7 +8,7 @@ use crate::way::Way;
 use differ::{
     Call, Direction, Side, Steps, Unlisted, bits_of, give_back, limited_memory, side_of, unlike_at,
 };
-use profile::Profile;
+use profile::{Op, Profile};
 use std::alloc::{AllocError, Global};
 
 /// What is known of the records of a call.
@@ -22,6 +22,9 @@ pub(crate) enum Walked {
     Unknown,
 }
 
+// How many numbers that stand for all others are few.
+const MOST_NUMBERS: usize = 4096;
+
 // How many rules are made at most of those of several profiles.
 const MOST_RULES: usize = 16_384;
 
@@ -34,6 +37,49 @@ fn rules_on(profile: &Profile, call: &Call) -> usize {
         }
     }
     count
+}
+
+// How many conditions of a profile for a call are under masks, or are not.
+fn conditions_on(profile: &Profile, call: &Call, are_masked: bool) -> usize {
+    let mut count: usize = 0;
+    for rule in profile.rules() {
+        if rule.arch.token() == call.token && rule.nr == call.nr {
+            for cond in rule.conds.as_slice() {
+                if (cond.op == Op::MaskedEq) == are_masked {
+                    count = count.saturating_add(1);
+                }
+            }
+        }
+    }
+    count
+}
+
+// How many conditions of profiles, and of one more, for a call are under masks, or are not.
+fn conditions_together(
+    profiles: &[Profile],
+    joined: &Profile,
+    call: &Call,
+    are_masked: bool,
+) -> usize {
+    let mut count = conditions_on(joined, call, are_masked);
+    for profile in profiles {
+        count = count.saturating_add(conditions_on(profile, call, are_masked));
+    }
+    count
+}
+
+/// Whether there may be many numbers that stand for all others: each mask doubles them.
+pub(crate) fn may_be_many(profiles: &[Profile], joined: &Profile, call: &Call) -> bool {
+    let masks = conditions_together(profiles, joined, call, true);
+    if masks == 0 {
+        return false;
+    }
+    let numbers = conditions_together(profiles, joined, call, false);
+    let mut count = numbers.saturating_mul(2).saturating_add(1);
+    for _ in 0..masks {
+        count = count.saturating_mul(2);
+    }
+    count > MOST_NUMBERS
 }
 
 // How many rules of profiles, and of one more, are for a call.

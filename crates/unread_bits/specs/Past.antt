@@ -15,7 +15,8 @@ use Rattle.unread_bits.specs.Crowded.{AreCrowded}
 use Rattle.unread_bits.specs.declared.past.Past.{Past}
 use Rattle.unread_bits.specs.declared.calls.AllPast.{AllPast}
 
--- The profile says verdicts of the call, and of the same call with the bits at 0 that are not read. They are unlike in the direction. The two
+-- The profile says verdicts of the call, and of the same call with the bits at 0 that are not read. They are unlike in the
+-- direction. The two
 -- calls are alike to the kernel.
 pub record IsUnlike (p : Policy) (direction : Direction) (past : Past) : Type 0 where
   pub cleared : IsCleared (words past.call) (words past.cleared)
@@ -49,7 +50,8 @@ NothingGetsPast p = AllAreLike p Less
 abbrev pub NothingIsStopped : Policy → Type 0
 NothingIsStopped p = AllAreLike p More
 
--- Two records that are alike to the kernel go equally far: both are refused, both are left to a tracer or a listener, or both are let through.
+-- Two records that are alike to the kernel go equally far: both are refused, both are left to a tracer or a listener, or both
+-- are let through.
 abbrev pub GoByWhatIsRead : Policy → Type 0
 GoByWhatIsRead p = (r s : List ℕ) → IsRecord r → IsRecord s → Alike r s → (v w : ℕ) → Says p r v → Says p s w → fate_of v ≡ fate_of w
 

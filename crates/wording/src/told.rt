@@ -31,7 +31,7 @@ impl End {
         if holds { End::Done } else { End::No }
     }
 
-    /// The same end, or no in the place of done unless something holds.
+    /// This end, if something holds. Otherwise *done* and *doubtful* become *no*.
     pub fn only_if(self, holds: bool) -> End
         ensures { result ≡ spec.end_if holds self }
     {
@@ -46,7 +46,7 @@ impl End {
         }
     }
 
-    /// The same end, or doubtful in the place of done.
+    /// This end, or *doubtful* in the place of *done* if something is doubtful.
     pub fn doubted(self, is_doubtful: bool) -> End
         ensures { result ≡ spec.end_doubted is_doubtful self }
     {

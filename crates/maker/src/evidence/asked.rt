@@ -84,7 +84,7 @@ fn merged_call(alloc: Global, call: &Call, parts: &[Part]) -> Result<AskedCall, 
     })
 }
 
-/// The same where the filter asks at once for bits of one word for which blocks of the outline ask one after the other.
+/// The calls, where the filter asks at once for bits of one word and blocks of the outline ask for them one after the other.
 pub(crate) fn merged_calls(alloc: Global, outline: &Outline) -> Result<Vec<AskedCall>, AllocError> {
     let marks = followed(alloc, &outline.blocks)?;
     let mut calls = Vec::new(alloc);
