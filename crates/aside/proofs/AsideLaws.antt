@@ -9,9 +9,9 @@ use Rattle.machines.specs.declared.arch.Arch.{Arch}
 use Rattle.machines.specs.declared.arch.Family.{Family}
 use Rattle.machines.specs.Arch.{family_of}
 use Rattle.cert_check.specs.Right.{IsRight}
-use Rattle.maker.specs.declared.evidence.evidence.Conviction.{Conviction}
+use Rattle.maker.specs.declared.evidence.evidence.Counterexample.{Counterexample}
 use Rattle.maker.specs.declared.evidence.evidence.Evidence.{Evidence}
-use Rattle.maker.specs.declared.evidence.evidence.Evidence.TheVariants.{Certificate, Convicting}
+use Rattle.maker.specs.declared.evidence.evidence.Evidence.TheVariants.{Certificate, Refuting}
 use Rattle.maker.specs.declared.make_error.MakeError.{MakeError}
 use Rattle.maker.specs.declared.make_error.MakeError.TheVariants.{Profile, Compile, Certify, Check, OutOfMemory}
 use Rattle.maker.specs.Certified.{IsJudgement}
@@ -20,14 +20,14 @@ use Rattle.profile.specs.Policy.{Policy, Says}
 use Rattle.rule_compile.proofs.RulesLaws.{any_either, any_left, any_nil, any_right}
 use Rattle.compare.specs.declared.behind_runc.stub.calls.Calls.{Calls}
 use Rattle.compare.specs.Behind.{IsBehind, IsJudgedBehind}
-use Rattle.compare.specs.Convictions.{Convicts}
+use Rattle.compare.specs.Counterexamples.{Refutes}
 use Rattle.compare.specs.Spared.{Spares}
 use Rattle.compare.specs.Stub.{IsAnswered, IsOf}
 use Rattle.compare.proofs.RightLaws.{left}
 use Rattle.compare.proofs.WriteLaws.{one_policy}
 use Rattle.aside.specs.Aside.{IsAside, IsRightBut}
 use Rattle.aside.specs.declared.leave.Leave.{Leave}
-use Rattle.aside.specs.Judged.{ConvictsBut, IsJudged, IsJudgedBut, IsLeftOut, IsOpenBut, MeansRightBut, stub_calls}
+use Rattle.aside.specs.Judged.{RefutesBut, IsJudged, IsJudgedBut, IsLeftOut, IsOpenBut, MeansRightBut, stub_calls}
 use Rattle.aside.specs.Named.{MayBeAside}
 use Rattle.aside.specs.inner.Front.{IsSameBut}
 use Rattle.aside.specs.inner.Lead.{AreTaken, IsUndecided, Leads}
@@ -51,10 +51,10 @@ open_of native bundle filter OutOfMemory taken is ne = absurd (ne refl)
 
 module _ (native : Arch) (bundle same filter : List ℕ) (aside : List Calls) (taken : AreTaken native bundle filter)
     (is_same : IsSameBut aside (insns_of same) (insns_of filter)) where
-  pub convicts_too : (found : Conviction) → IsRecord (words found.call) → (IsAside aside (words found.call) → ⊥)
-      → Convicts native bundle same found → ConvictsBut native bundle filter [] aside found
-  convicts_too found is kept evidence = record {
-    convicts = (
+  pub refutes_too : (found : Counterexample) → IsRecord (words found.call) → (IsAside aside (words found.call) → ⊥)
+      → Refutes native bundle same found → RefutesBut native bundle filter [] aside found
+  refutes_too found is kept evidence = record {
+    refutes = (
       evidence.0,
       record { means = evidence.1.means; program = taken.1.program; accepted = taken.1.accepted },
       record {
@@ -99,8 +99,8 @@ module _ (native : Arch) (bundle filter rest : List ℕ) (answered aside : List 
         right_joined policy spares
             (subst (λ (p : Policy). IsRightBut p (insns_of filter) [] (answered ++ aside)) same right.2),
       )
-  joined_judged policy means spares (Ok (Convicting found)) is = record {
-    convicts = is.convicts;
+  joined_judged policy means spares (Ok (Refuting found)) is = record {
+    refutes = is.refutes;
     kept = λ h. is.kept (any_right (IsOf (words found.call)) answered aside h);
     passed = λ h. is.kept (any_left (IsOf (words found.call)) answered aside h);
   }
@@ -114,7 +114,7 @@ judged_as evidence = Ok evidence
 pub ok_of : (judged : Result Evidence MakeError) (e found : Evidence) → judged ≡ judged_as e → e ≡ found → judged ≡ judged_as found
 ok_of judged e found is same = is ∙ ap judged_as same
 
-pub leads_of : (family : Family) (leave : Leave) (judged : Result Evidence MakeError) (found : Conviction) → judged ≡ judged_as (Convicting found)
+pub leads_of : (family : Family) (leave : Leave) (judged : Result Evidence MakeError) (found : Counterexample) → judged ≡ judged_as (Refuting found)
     → (o : Option Calls) → IfSome o (MayBeAside family leave) → IfSome o (IsOf (words found.call)) → IfSome o (Leads family leave judged)
 leads_of family leave judged found is None may is_of = tt
 leads_of family leave judged found is (Some calls) may is_of = record { may = may; found = found; is = is; is_of = is_of }
@@ -127,24 +127,24 @@ pushed_some [] c e = cc
 pushed_some (first ∷ aside) c e = cc
 
 module _ (native : Arch) (bundle filter rest : List ℕ) (answered : List Calls) (leave : Leave) where
-  of_behind : (whole : Bool) (found : Conviction) → IsJudgedBehind native bundle filter rest answered whole (Ok (Convicting found))
-      → Convicts native bundle filter found
+  of_behind : (whole : Bool) (found : Counterexample) → IsJudgedBehind native bundle filter rest answered whole (Ok (Refuting found))
+      → Refutes native bundle filter found
   of_behind true found is = is
   of_behind false found (inl is) = is.0
   of_behind false found (inr is) = absurd is.1
 
-  -- a record that was found convicts the filter
-  pub convicted : (aside : List Calls) (whole : Bool) (judged : Result Evidence MakeError)
+  -- a record that was found refutes the filter
+  pub refuted : (aside : List Calls) (whole : Bool) (judged : Result Evidence MakeError)
       → IsJudged native bundle filter rest answered leave aside whole judged
-      → (found : Conviction) → judged ≡ judged_as (Convicting found) → Convicts native bundle filter found
-  convicted [] whole judged is found e =
+      → (found : Counterexample) → judged ≡ judged_as (Refuting found) → Refutes native bundle filter found
+  refuted [] whole judged is found e =
       of_behind whole found
       (subst (λ (j : Result Evidence MakeError). IsJudgedBehind native bundle filter rest answered whole j) e (is.all refl))
-  convicted (c ∷ more) whole judged is found e =
-      let but : IsJudgedBut native bundle filter (stub_calls whole answered) (c ∷ more) (Ok (Convicting found)) =
+  refuted (c ∷ more) whole judged is found e =
+      let but : IsJudgedBut native bundle filter (stub_calls whole answered) (c ∷ more) (Ok (Refuting found)) =
       subst (λ (j : Result Evidence MakeError). IsJudgedBut native bundle filter (stub_calls whole answered) (c ∷ more) j) e
       (is.but (not_empty c more)) in
-      but.convicts
+      but.refutes
 
   -- the calls that it leads to are left aside with reason, and the filter is judged beside a profile
   pub left_out : (aside : List Calls) (whole : Bool) (judged : Result Evidence MakeError)
@@ -153,7 +153,7 @@ module _ (native : Arch) (bundle filter rest : List ℕ) (answered : List Calls)
   left_out aside whole judged is calls leads = record {
     may = leads.may;
     found = leads.found;
-    convicts = convicted aside whole judged is leads.found leads.is;
+    refutes = refuted aside whole judged is leads.found leads.is;
     is_of = leads.is_of;
   }
 
@@ -161,4 +161,4 @@ module _ (native : Arch) (bundle filter rest : List ℕ) (answered : List Calls)
       → IsJudged native bundle filter rest answered leave aside whole judged
       → (calls : Calls) → Leads (family_of native) leave judged calls → AreTaken native bundle filter
   taken_of aside whole judged is calls leads =
-      let evidence = convicted aside whole judged is leads.found leads.is in (evidence.0, evidence.1)
+      let evidence = refuted aside whole judged is leads.found leads.is in (evidence.0, evidence.1)

@@ -5,7 +5,7 @@ use Rattle.call_record.specs.Record.{words}
 use Rattle.machines.specs.declared.arch.Arch.{Arch}
 use Rattle.machines.specs.declared.arch.Family.{Family}
 use Rattle.machines.specs.Arch.{family_of}
-use Rattle.maker.specs.declared.evidence.evidence.Conviction.{Conviction}
+use Rattle.maker.specs.declared.evidence.evidence.Counterexample.{Counterexample}
 use Rattle.maker.specs.declared.evidence.evidence.Evidence.{Evidence}
 use Rattle.maker.specs.declared.make_error.MakeError.{MakeError}
 use Rattle.maker.specs.Exported.{LacksMemory}
@@ -15,9 +15,9 @@ use Rattle.texts.specs.Sink.{WritesMade}
 use Rattle.texts.specs.declared.streams.fault.WriteFault.{WriteFault}
 use Rattle.compare.specs.declared.behind_runc.stub.calls.Calls.{Calls}
 use Rattle.compare.specs.Behind.{IsBehind, IsJudgedBehind, WritesBehind}
-use Rattle.compare.specs.Convictions.{WritesLines}
+use Rattle.compare.specs.Counterexamples.{WritesLines}
 use Rattle.aside.specs.declared.leave.Leave.{Leave}
-use Rattle.aside.specs.Judged.{ConvictsBut, IsJudged, IsJudgedBut, MeansRightBut, stub_calls}
+use Rattle.aside.specs.Judged.{RefutesBut, IsJudged, IsJudgedBut, MeansRightBut, stub_calls}
 use Rattle.aside.specs.Told.{AreFoundBut, CertifiesBut, WritesBut, but_text}
 
 abbrev IsNo : Bool → Type 0
@@ -25,7 +25,7 @@ IsNo true = ⊥
 IsNo false = Unit {0}
 
 -- none are told where there are some
-some_are : (all : List Conviction) (empty : Bool) → empty ≡ (length all == 0) → empty ≡ false → all ≡ [] → ⊥
+some_are : (all : List Counterexample) (empty : Bool) → empty ≡ (length all == 0) → empty ≡ false → all ≡ [] → ⊥
 some_are [] empty is filled e = subst IsNo (sym filled ∙ is) tt
 some_are (found ∷ more) empty is filled e = cc
 
@@ -41,18 +41,18 @@ module _ {S : Type 0} (held : S → Option (List ℕ)) (failures : S → Failure
     })
     yes_told family is right (inr lacks) = inr (inr (inr lacks))
 
-    pub record_told : (found : Conviction) → ConvictsBut native bundle filter answered aside found
+    pub record_told : (found : Counterexample) → RefutesBut native bundle filter answered aside found
         → Tells held failures old new (words found.call) found.given found.said result
         → WritesBut held failures old new native bundle filter answered aside result
-    record_told found convicts (inl told) = inr (inl (record {
+    record_told found refutes (inl told) = inr (inl (record {
       found = found;
       line = told.line;
       is = told.is;
-      convicts = convicts;
+      refutes = refutes;
       written = told.written;
       told = told.told;
     }))
-    record_told found convicts (inr lacks) = inr (inr (inr lacks))
+    record_told found refutes (inr lacks) = inr (inr (inr lacks))
 
   module _ (bundle filter rest : List ℕ) (answered : List Calls) (leave : Leave) (behind : IsBehind filter rest answered) where
     -- what is judged is written
@@ -87,8 +87,8 @@ module _ {S : Type 0} (held : S → Option (List ℕ)) (failures : S → Failure
     -- so are all records that were found
     pub all_told : (aside : List Calls) (whole : Bool) (judged : Result Evidence MakeError)
         → IsJudged native bundle filter rest answered leave aside whole judged
-        → (all : List Conviction) (empty : Bool) → empty ≡ (length all == 0) → empty ≡ false
-        → (all ≡ []) ⊎ ((found : Conviction) × AreFoundBut native bundle filter (stub_calls whole answered) aside found all)
+        → (all : List Counterexample) (empty : Bool) → empty ≡ (length all == 0) → empty ≡ false
+        → (all ≡ []) ⊎ ((found : Counterexample) × AreFoundBut native bundle filter (stub_calls whole answered) aside found all)
         → WritesLines held failures old new all result ⊎ LacksMemory old new result
         → CertifiesBut held failures old new native bundle filter leave result
     all_told aside whole judged is all empty size filled (inl none) written = absurd (some_are all empty size filled none)

@@ -7,16 +7,16 @@ use Rattle.machines.specs.Arch.{family_of}
 use Rattle.bpf_insn.specs.Bytes.{insns_of}
 use Rattle.profile.specs.Policy.{Policy}
 use Rattle.certify.specs.declared.error.CertifyError.TheVariants as maker
-use Rattle.maker.specs.declared.evidence.evidence.Conviction.{Conviction}
+use Rattle.maker.specs.declared.evidence.evidence.Counterexample.{Counterexample}
 use Rattle.maker.specs.declared.evidence.evidence.Evidence.{Evidence}
-use Rattle.maker.specs.declared.evidence.evidence.Evidence.TheVariants.{Certificate, Convicting}
+use Rattle.maker.specs.declared.evidence.evidence.Evidence.TheVariants.{Certificate, Refuting}
 use Rattle.maker.specs.declared.make_error.MakeError.{MakeError}
 use Rattle.maker.specs.declared.make_error.MakeError.TheVariants.{Certify, OutOfMemory}
 use Rattle.maker.specs.Certified.{AreJudged}
 use Rattle.maker.specs.Finding.{IsBundle}
 use Rattle.compare.specs.declared.behind_runc.stub.calls.Calls.{Calls}
 use Rattle.compare.specs.Behind.{IsJudgedBehind}
-use Rattle.compare.specs.Convictions.{Convicts}
+use Rattle.compare.specs.Counterexamples.{Refutes}
 use Rattle.compare.specs.Stub.{IsAnswered, IsOf}
 use Rattle.aside.specs.declared.leave.Leave.{Leave}
 use Rattle.aside.specs.Aside.{IsAside, IsRightBut}
@@ -26,8 +26,8 @@ use Rattle.aside.specs.Named.{MayBeAside}
 -- bundle says.
 pub record IsLeftOut (native : Arch) (bundle filter : List ℕ) (leave : Leave) (calls : Calls) : Type 0 where
   pub may : MayBeAside (family_of native) leave calls
-  pub found : Conviction
-  pub convicts : Convicts native bundle filter found
+  pub found : Counterexample
+  pub refutes : Refutes native bundle filter found
   pub is_of : IsOf (words found.call) calls
 
 abbrev pub AreLeftOut : Arch → List ℕ → List ℕ → Leave → List Calls → Type 0
@@ -38,9 +38,9 @@ abbrev pub MeansRightBut : Arch → List ℕ → List ℕ → List Calls → Lis
 MeansRightBut native bundle filter answered aside =
     (policy : Policy) × IsBundle native bundle policy × IsRightBut policy (insns_of filter) answered aside
 
--- a record convicts the filter that is not of a call that is left aside, and that its stub does not answer
-pub record ConvictsBut (native : Arch) (bundle filter : List ℕ) (answered aside : List Calls) (found : Conviction) : Type 0 where
-  pub convicts : Convicts native bundle filter found
+-- a record refutes the filter that is not of a call that is left aside, and that its stub does not answer
+pub record RefutesBut (native : Arch) (bundle filter : List ℕ) (answered aside : List Calls) (found : Counterexample) : Type 0 where
+  pub refutes : Refutes native bundle filter found
   pub kept : IsAside aside (words found.call) → ⊥
   pub passed : IsAnswered answered (words found.call) → ⊥
 
@@ -56,7 +56,7 @@ stub_calls whole answered = if whole then [] else answered
 -- what is judged where these calls are left aside
 abbrev pub IsJudgedBut : Arch → List ℕ → List ℕ → List Calls → List Calls → Result Evidence MakeError → Type 0
 IsJudgedBut native bundle filter answered aside (Ok (Certificate bytes)) = MeansRightBut native bundle filter answered aside
-IsJudgedBut native bundle filter answered aside (Ok (Convicting found)) = ConvictsBut native bundle filter answered aside found
+IsJudgedBut native bundle filter answered aside (Ok (Refuting found)) = RefutesBut native bundle filter answered aside found
 IsJudgedBut native bundle filter answered aside (Err e) = e ≢ OutOfMemory → IsOpenBut native bundle filter e
 
 -- What is judged, and of which calls it is not. If none is left aside, it is what is judged without such words.

@@ -5,7 +5,7 @@ use Rattle.machines.specs.declared.arch.Arch.{Arch}
 use Rattle.machines.specs.declared.arch.Family.{Family}
 use Rattle.machines.specs.Arch.{family_of}
 use Rattle.call_record.specs.Record.{words}
-use Rattle.maker.specs.declared.evidence.evidence.Conviction.{Conviction}
+use Rattle.maker.specs.declared.evidence.evidence.Counterexample.{Counterexample}
 use Rattle.maker.specs.declared.make_error.MakeError.{MakeError}
 use Rattle.maker.specs.Exported.{LacksMemory, line_of}
 use Rattle.maker.specs.Told.{IsLine}
@@ -14,10 +14,10 @@ use Rattle.texts.specs.Sink.{WritesMade}
 use Rattle.texts.specs.declared.streams.fault.WriteFault.{WriteFault}
 use Rattle.compare.specs.declared.behind_runc.stub.calls.Calls.{Calls}
 use Rattle.compare.specs.Behind.{AreFoundBehind, IsBehind, WritesBehind}
-use Rattle.compare.specs.Convictions.{WritesLines}
+use Rattle.compare.specs.Counterexamples.{WritesLines}
 use Rattle.compare.specs.StubTold.{calls_line}
 use Rattle.aside.specs.declared.leave.Leave.{Leave}
-use Rattle.aside.specs.Judged.{AreLeftOut, ConvictsBut, IsOpenBut, MeansRightBut, stub_calls}
+use Rattle.aside.specs.Judged.{AreLeftOut, RefutesBut, IsOpenBut, MeansRightBut, stub_calls}
 
 -- a line, and the lines of the calls that are left aside
 abbrev pub but_text : Family → List Calls → List ℕ
@@ -30,13 +30,13 @@ pub record WritesRightBut {S : Type 0} (held : S → Option (List ℕ)) (failure
   pub written : WritesMade held failures old new (but_text (family_of native) aside) result
   pub told : IfOk result (λ done. done ≡ true)
 
--- the line of a record of another call that convicts the filter; the answer is false
-pub record WritesConvictionBut {S : Type 0} (held : S → Option (List ℕ)) (failures : S → Failures) (old new : S) (native : Arch)
+-- the line of a record of another call that refutes the filter; the answer is false
+pub record WritesCounterexampleBut {S : Type 0} (held : S → Option (List ℕ)) (failures : S → Failures) (old new : S) (native : Arch)
     (bundle filter : List ℕ) (answered aside : List Calls) (result : Result Bool WriteFault) : Type 0 where
-  pub found : Conviction
+  pub found : Counterexample
   pub line : List ℕ
   pub is : IsLine (words found.call) found.given found.said line
-  pub convicts : ConvictsBut native bundle filter answered aside found
+  pub refutes : RefutesBut native bundle filter answered aside found
   pub written : WritesMade held failures old new line result
   pub told : IfOk result (λ done. done ≡ false)
 
@@ -53,21 +53,21 @@ abbrev pub WritesBut : {S : Type 0} → (S → Option (List ℕ)) → (S → Fai
     → Result Bool WriteFault → Type 0
 WritesBut held failures old new native bundle filter answered aside result =
     WritesRightBut held failures old new native bundle filter answered aside result
-    ⊎ (WritesConvictionBut held failures old new native bundle filter answered aside result
+    ⊎ (WritesCounterexampleBut held failures old new native bundle filter answered aside result
     ⊎ (WritesOpenBut held failures old new native bundle filter result ⊎ LacksMemory old new result))
 
 -- ---- all records, and what `certify` writes
 
--- What was found: the record that was found first, and then further ones. Each convicts the filter, and none of the further ones is of a
+-- What was found: the record that was found first, and then further ones. Each refutes the filter, and none of the further ones is of a
 -- call that is left aside or that the stub answers.
-abbrev pub AreFoundBut : Arch → List ℕ → List ℕ → List Calls → List Calls → Conviction → List Conviction → Type 0
+abbrev pub AreFoundBut : Arch → List ℕ → List ℕ → List Calls → List Calls → Counterexample → List Counterexample → Type 0
 AreFoundBut native bundle filter answered aside found all = AreFoundBehind native bundle filter (answered ++ aside) false found all
 
 -- what was written are the lines of such records, one at least; the answer is false
 pub record WritesAllBut {S : Type 0} (held : S → Option (List ℕ)) (failures : S → Failures) (old new : S) (native : Arch)
     (bundle filter : List ℕ) (answered aside : List Calls) (result : Result Bool WriteFault) : Type 0 where
-  pub found : Conviction
-  pub all : List Conviction
+  pub found : Counterexample
+  pub all : List Counterexample
   pub are : AreFoundBut native bundle filter answered aside found all
   pub written : WritesLines held failures old new all result
 

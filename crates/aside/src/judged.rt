@@ -5,7 +5,7 @@ ghost use Rattle.machines.specs.declared.arch.Arch.{Arch as TheArch};
 ghost use Rattle.maker.specs.Certified.{IsJudgement};
 ghost use Rattle.maker.specs.Finding.{IsBundle};
 ghost use Rattle.compare.specs.Behind.{IsBehind};
-ghost use Rattle.compare.specs.Convictions.{Convicts};
+ghost use Rattle.compare.specs.Counterexamples.{Refutes};
 ghost use Rattle.aside.specs.declared.leave.Leave.{Leave as TheLeave};
 ghost use Rattle.aside.specs.Judged.{AreLeftOut, IsJudged, IsJudgedBut, IsLeftOut, stub_calls};
 ghost use Rattle.aside.specs.inner.Front.{IsSameBut};
@@ -20,7 +20,7 @@ use call_record::words_are_a_record;
 use certify::CertifyError;
 use compare::{Behind, Calls, Judged, is_answered, judge_behind, spares};
 use machines::Family;
-use maker::{Conviction, Evidence, MakeError, judge_filter};
+use maker::{Counterexample, Evidence, MakeError, judge_filter};
 use profile::Profile;
 use profile_json::Document;
 use rule_compile::compile;
@@ -36,18 +36,18 @@ pub struct But {
     pub judged: Judged,
 }
 
-// A filter is the same as another on all records but those of these calls. So a record that convicts it convicts the other, unless it is of
+// A filter is the same as another on all records but those of these calls. So a record that refutes it refutes the other, unless it is of
 // one of them.
-fn of_found(aside: &[Calls], found: &Conviction) -> Result<Evidence, MakeError>
+fn of_found(aside: &[Calls], found: &Counterexample) -> Result<Evidence, MakeError>
     ensures { (native : TheArch) (bundle same filter : List ℕ) → AreTaken native bundle filter
-        → IsSameBut aside.now (insns_of same) (insns_of filter) → Convicts native bundle same found.now
+        → IsSameBut aside.now (insns_of same) (insns_of filter) → Refutes native bundle same found.now
         → IsJudgedBut native bundle filter [] aside.now result }
 {
     words_are_a_record(&found.call);
     if is_answered(aside, &found.call) {
         return Err(MakeError::Certify(CertifyError::Undecided(0)));
     }
-    Ok(Evidence::Convicting(*found))
+    Ok(Evidence::Refuting(*found))
 }
 
 // What is judged of a filter, by what is judged of another. That one is the same on all records but those of these calls, and has so many
@@ -63,7 +63,7 @@ fn of_same(
 {
     match judged {
         Ok(Evidence::Certificate(bytes)) => Ok(Evidence::Certificate(bytes)),
-        Ok(Evidence::Convicting(found)) => of_found(aside, &found),
+        Ok(Evidence::Refuting(found)) => of_found(aside, &found),
         Err(make_error) => Err(undecided(&make_error, front)),
     }
 }
@@ -165,7 +165,7 @@ fn next_in(family: Family, leave: Leave, evidence: &Evidence) -> Option<Calls>
     ensures { IfSome result (Leads family leave (Ok evidence.now)) }
 {
     match evidence {
-        Evidence::Convicting(found) => aside_for(family, leave, &found.call),
+        Evidence::Refuting(found) => aside_for(family, leave, &found.call),
         Evidence::Certificate(_) => None,
     }
 }
@@ -203,7 +203,7 @@ fn leave_more(
 }
 
 /// What is judged of a filter behind a stub, beside a bundle, where calls may be left aside. It is judged
-/// for all calls first. While it is convicted by a record of calls that may be left aside, these are, and it is judged for the others.
+/// for all calls first. While it is refuted by a record of calls that may be left aside, these are, and it is judged for the others.
 pub fn judge_but(
     alloc: Global,
     document: &Document,

@@ -13,7 +13,7 @@ mod named;
 mod undecided;
 mod written;
 
-pub use found::convictions_but;
+pub use found::counterexamples_but;
 pub use judged::{But, judge_but};
 pub use leave::Leave;
 pub use written::{write_but, write_found};

@@ -3,8 +3,8 @@ ghost use Rattle.std.specs.Prelude.{◌≡◌, ◌≢◌, ◌⊎◌, [], ℕ, Li
 ghost use Rattle.call_record.specs.Record.{words};
 ghost use Rattle.machines.specs.declared.arch.Arch.{Arch as TheArch};
 ghost use Rattle.machines.specs.Arch.{family_of};
-ghost use Rattle.maker.specs.declared.evidence.evidence.Conviction.{Conviction as TheConviction};
-ghost use Rattle.maker.specs.declared.evidence.evidence.Evidence.TheVariants.{Convicting};
+ghost use Rattle.maker.specs.declared.evidence.evidence.Counterexample.{Counterexample as TheCounterexample};
+ghost use Rattle.maker.specs.declared.evidence.evidence.Evidence.TheVariants.{Refuting};
 ghost use Rattle.maker.specs.Exported.{LacksMemory};
 ghost use Rattle.maker.specs.Told.{IsWritten, Tells};
 ghost use Rattle.compare.specs.declared.behind_runc.stub.calls.Calls.{Calls as TheCalls};
@@ -14,9 +14,9 @@ ghost use Rattle.aside.specs.Judged.{IsJudged, IsJudgedBut, stub_calls};
 ghost use Rattle.aside.specs.Told.{AreFoundBut, CertifiesBut, WritesBut, but_text};
 
 use crate::judged::But;
-use compare::{Calls, calls_text, write_behind, write_convictions};
+use compare::{Calls, calls_text, write_behind, write_counterexamples};
 use machines::{Arch, Family};
-use maker::{Conviction, Evidence, refuse, write_judged};
+use maker::{Counterexample, Evidence, refuse, write_judged};
 use std::alloc::{AllocError, Global};
 use texts::{Sink, WriteFault, write_all};
 
@@ -58,12 +58,12 @@ fn write_evidence<S: Sink>(
     ensures but { (native : TheArch) (bundle filter : List ℕ) (answered : List TheCalls) → family ≡ family_of native
         → IsJudgedBut native bundle filter answered but.now.aside.items (Ok evidence.now)
         → WritesBut S.held S.failures sink.old sink.new native bundle filter answered but.now.aside.items result }
-    ensures told { (found : TheConviction) → evidence.now ≡ Convicting found
+    ensures told { (found : TheCounterexample) → evidence.now ≡ Refuting found
         → Tells S.held S.failures sink.old sink.new (words found.call) found.given found.said result }
 {
     match evidence {
         Evidence::Certificate(_) => write_yes(alloc, family, &but.aside, sink),
-        Evidence::Convicting(_) => write_judged(alloc, &but.judged.evidence, sink),
+        Evidence::Refuting(_) => write_judged(alloc, &but.judged.evidence, sink),
     }
 }
 
@@ -77,7 +77,7 @@ fn write_aside<S: Sink>(
     ensures but { (native : TheArch) (bundle filter : List ℕ) (answered : List TheCalls) → family ≡ family_of native
         → IsJudgedBut native bundle filter answered but.now.aside.items but.now.judged.evidence
         → WritesBut S.held S.failures sink.old sink.new native bundle filter answered but.now.aside.items result }
-    ensures told { (found : TheConviction) → but.now.judged.evidence ≡ Ok (Convicting found)
+    ensures told { (found : TheCounterexample) → but.now.judged.evidence ≡ Ok (Refuting found)
         → Tells S.held S.failures sink.old sink.new (words found.call) found.given found.said result }
 {
     match &but.judged.evidence {
@@ -87,7 +87,7 @@ fn write_aside<S: Sink>(
 }
 
 /// Writes what is judged of a filter where calls may be left aside. Of one that is right but for them it writes a yes and these; of
-/// one that is convicted, the line of the record. Where none is left aside, it writes what is written without such words.
+/// one that is refuted, the line of the record. Where none is left aside, it writes what is written without such words.
 pub fn write_but<S: Sink>(
     alloc: Global,
     native: Arch,
@@ -101,7 +101,7 @@ pub fn write_but<S: Sink>(
         → IsJudgedBut native bundle filter answered but.now.aside.items but.now.judged.evidence
         → WritesBut S.held S.failures sink.old sink.new native bundle filter answered but.now.aside.items result }
     // The record that is told is the one that was found.
-    ensures told { (found : TheConviction) → but.now.judged.evidence ≡ Ok (Convicting found)
+    ensures told { (found : TheCounterexample) → but.now.judged.evidence ≡ Ok (Refuting found)
         → Tells S.held S.failures sink.old sink.new (words found.call) found.given found.said result }
 {
     if but.aside.is_empty() {
@@ -115,17 +115,17 @@ pub fn write_found<S: Sink>(
     alloc: Global,
     native: Arch,
     but: &But,
-    all: &[Conviction],
+    all: &[Counterexample],
     sink: &mut S,
 ) -> Result<bool, WriteFault>
     ensures { (bundle filter rest : List ℕ) (answered : List TheCalls) (leave : TheLeave) → IsBehind filter rest answered
         → IsJudged native bundle filter rest answered leave but.now.aside.items but.now.judged.whole but.now.judged.evidence
-        → ((all.now ≡ []) ⊎ ((found : TheConviction)
+        → ((all.now ≡ []) ⊎ ((found : TheCounterexample)
         × AreFoundBut native bundle filter (stub_calls but.now.judged.whole answered) but.now.aside.items found all.now))
         → CertifiesBut S.held S.failures sink.old sink.new native bundle filter leave result }
 {
     if all.is_empty() {
         return write_but(alloc, native, but, sink);
     }
-    write_convictions(alloc, all, sink)
+    write_counterexamples(alloc, all, sink)
 }

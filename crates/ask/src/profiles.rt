@@ -121,7 +121,7 @@ fn certified(out: &mut Answers, profile: &Profile, filter: &[u8]) -> Vec<u8> {
             out.tell_bytes(&bytes);
             return bytes;
         }
-        Ok(Evidence::Convicting(_found)) => out.tell("wrong"),
+        Ok(Evidence::Refuting(_found)) => out.tell("wrong"),
         Err(make_error) => out.tell(make_error),
     }
     Vec::new(out.alloc)

@@ -5,10 +5,10 @@ use Rattle.std.proofs.lemmas.List.Elements.{All-head}
 use Rattle.machines.specs.declared.arch.Arch.{Arch}
 use Rattle.texts.specs.Failures.{Failures}
 use Rattle.texts.specs.declared.streams.fault.WriteFault.{WriteFault}
-use Rattle.maker.specs.declared.evidence.evidence.Conviction.{Conviction}
+use Rattle.maker.specs.declared.evidence.evidence.Counterexample.{Counterexample}
 use Rattle.compare.specs.declared.behind_runc.stub.calls.Calls.{Calls}
 use Rattle.compare.specs.Behind.{IsBehind, WritesBehind}
-use Rattle.compare.specs.Convictions.{AllConvict, Convicts}
+use Rattle.compare.specs.Counterexamples.{AllRefute, Refutes}
 use Rattle.aside.specs.declared.leave.Leave.{Leave}
 use Rattle.aside.specs.Judged.{AreLeftOut, IsLeftOut}
 use Rattle.aside.specs.Told.{AreFoundBut, CertifiesBut, CertifiesBy}
@@ -26,12 +26,12 @@ module _ (native : Arch) (bundle filter f : List ℕ) (enough : IsEnough 32768 f
   of_left [] some left = absurd (some refl)
   of_left (calls ∷ more) some left =
       let one : IsLeftOut native bundle f leave calls = All-head (IsLeftOut native bundle f leave) calls more left in
-      whole_filter filter f enough one.convicts.1.program
+      whole_filter filter f enough one.refutes.1.program
 
-  of_found : (found : Conviction) (further all : List Conviction) → all ≡ found ∷ further → AllConvict native bundle f all → f ≡ filter
-  of_found found further all first convict =
-      let one : Convicts native bundle f found =
-      All-head (Convicts native bundle f) found further (subst (λ (a : List Conviction). AllConvict native bundle f a) first convict) in
+  of_found : (found : Counterexample) (further all : List Counterexample) → all ≡ found ∷ further → AllRefute native bundle f all → f ≡ filter
+  of_found found further all first refute =
+      let one : Refutes native bundle f found =
+      All-head (Refutes native bundle f) found further (subst (λ (a : List Counterexample). AllRefute native bundle f a) first refute) in
       whole_filter filter f enough one.1.program
 
   none_left : AreLeftOut native bundle filter leave []
@@ -60,7 +60,7 @@ module _ (native : Arch) (bundle filter f : List ℕ) (enough : IsEnough 32768 f
         );
       }
       | inr (inl some) ↦ same (of_left h.aside some.0 h.left) h
-      | inr (inr all) ↦ same (of_found all.found all.are.are.further all.all all.are.are.first all.are.are.convict) h
+      | inr (inr all) ↦ same (of_found all.found all.are.are.further all.all all.are.are.first all.are.are.refute) h
     ]
 
     pub but_of_file : CertifiesBut held failures old new native bundle f leave result
@@ -101,8 +101,8 @@ module _ {O : Type 0} (held : O → Option (List ℕ)) (failures : O → Failure
     )
 
 -- what was found, without the record that was judged
-pub found_only : (native : Arch) (bundle filter : List ℕ) (answered aside : List Calls) (Is : Conviction → Type 0) (all : List Conviction)
-    → (all ≡ []) ⊎ ((found : Conviction) × Is found × AreFoundBut native bundle filter answered aside found all)
-    → (all ≡ []) ⊎ ((found : Conviction) × AreFoundBut native bundle filter answered aside found all)
+pub found_only : (native : Arch) (bundle filter : List ℕ) (answered aside : List Calls) (Is : Counterexample → Type 0) (all : List Counterexample)
+    → (all ≡ []) ⊎ ((found : Counterexample) × Is found × AreFoundBut native bundle filter answered aside found all)
+    → (all ≡ []) ⊎ ((found : Counterexample) × AreFoundBut native bundle filter answered aside found all)
 found_only native bundle filter answered aside Is all (inl none) = inl none
 found_only native bundle filter answered aside Is all (inr some) = inr (some.0, some.2)

@@ -16,7 +16,7 @@ use Rattle.wording.specs.declared.told.End.TheVariants as end
 use Rattle.wording.specs.declared.told.Told.{Told}
 use Rattle.maker.specs.Answer.{WritesAnswer}
 use Rattle.compare.specs.Behind.{CertifiesAllBehind, CertifiesBehind}
-use Rattle.compare.specs.Convictions.{TellsAll}
+use Rattle.compare.specs.Counterexamples.{TellsAll}
 use Rattle.maker.specs.Certified.{Certifies}
 use Rattle.maker.specs.Finding.{WritesFinding}
 use Rattle.cli.specs.declared.stops.Stop.{Stop}

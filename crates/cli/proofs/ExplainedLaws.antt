@@ -3,9 +3,9 @@ use Rattle.std.proofs.Common.{◌≡◌, ◌⊎◌, ℕ, List, Bool, true, false
 use Rattle.std.specs.Prelude.{Err, IfErr, IfOk, Ok, Option, Result}
 use Rattle.call_record.specs.Record.{words}
 use Rattle.machines.specs.declared.arch.Arch.{Arch}
-use Rattle.maker.specs.declared.evidence.evidence.Conviction.{Conviction}
+use Rattle.maker.specs.declared.evidence.evidence.Counterexample.{Counterexample}
 use Rattle.maker.specs.declared.evidence.evidence.Evidence.{Evidence}
-use Rattle.maker.specs.declared.evidence.evidence.Evidence.TheVariants.{Certificate, Convicting}
+use Rattle.maker.specs.declared.evidence.evidence.Evidence.TheVariants.{Certificate, Refuting}
 use Rattle.maker.specs.Told.{Tells}
 use Rattle.maker.specs.declared.make_error.MakeError.{MakeError}
 use Rattle.texts.specs.Failures.{Failures}
@@ -23,20 +23,20 @@ module _ {O E : Type 0} (held : O → Option (List ℕ)) (failures : O → Failu
     (dropped : E → Failures) (err err' : E) (native : Arch) (bundle : List ℕ) where
   module _ (result : Result Bool WriteFault) where
     -- where a record was told the answer is no
-    not_done : (found : Conviction) → Tells held failures out out' (words found.call) found.given found.said result → result ≡ Ok true → ⊥
+    not_done : (found : Counterexample) → Tells held failures out out' (words found.call) found.given found.said result → result ≡ Ok true → ⊥
     not_done found (inl line) is =
         subst IsYes (subst (λ (r : Result Bool WriteFault). IfOk r (λ done. done ≡ false)) is line.told) tt
     not_done found (inr lacks) is = subst (λ (r : Result Bool WriteFault). IfErr r (λ e. ⊥)) (sym is ∙ lacks.0) tt
 
     pub quiet_of : (judged : Result Evidence MakeError)
-        → ((found : Conviction) → judged ≡ Ok (Convicting found)
+        → ((found : Counterexample) → judged ≡ Ok (Refuting found)
         → Tells held failures out out' (words found.call) found.given found.said result)
         → (HasNoRecord judged → err' ≡ err) → result ≡ Ok true → err' ≡ err
     quiet_of (Ok (Certificate cert)) told quiet is = quiet tt
-    quiet_of (Ok (Convicting found)) told quiet is = absurd (not_done found (told found refl) is)
+    quiet_of (Ok (Refuting found)) told quiet is = absurd (not_done found (told found refl) is)
     quiet_of (Err make_error) told quiet is = quiet tt
 
-    line_of : (found : Conviction) → MayTellWhy shown dropped err err' native bundle found.call → result ≡ Ok false
+    line_of : (found : Counterexample) → MayTellWhy shown dropped err err' native bundle found.call → result ≡ Ok false
         → Tells held failures out out' (words found.call) found.given found.said result
         → (err' ≡ err) ⊎ TellsRecord held failures out out' shown dropped err err' native bundle
     line_of found why is (inl h) =
@@ -52,13 +52,13 @@ module _ {O E : Type 0} (held : O → Option (List ℕ)) (failures : O → Failu
     line_of found why is (inr lacks) = absurd (subst (λ (r : Result Bool WriteFault). IfErr r (λ e. ⊥)) (sym is ∙ lacks.0) tt)
 
     pub told_of : (judged : Result Evidence MakeError)
-        → ((found : Conviction) → judged ≡ Ok (Convicting found)
+        → ((found : Counterexample) → judged ≡ Ok (Refuting found)
         → Tells held failures out out' (words found.call) found.given found.said result)
-        → ((found : Conviction) → judged ≡ Ok (Convicting found) → MayTellWhy shown dropped err err' native bundle found.call)
+        → ((found : Counterexample) → judged ≡ Ok (Refuting found) → MayTellWhy shown dropped err err' native bundle found.call)
         → (HasNoRecord judged → err' ≡ err) → result ≡ Ok false
         → (err' ≡ err) ⊎ TellsRecord held failures out out' shown dropped err err' native bundle
     told_of (Ok (Certificate cert)) told why quiet is = inl (quiet tt)
-    told_of (Ok (Convicting found)) told why quiet is = line_of found (why found refl) is (told found refl)
+    told_of (Ok (Refuting found)) told why quiet is = line_of found (why found refl) is (told found refl)
     told_of (Err make_error) told why quiet is = inl (quiet tt)
 
   -- of a certificate nothing is explained, and else the record that was told

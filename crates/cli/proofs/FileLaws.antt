@@ -15,7 +15,7 @@ use Rattle.std.proofs.lemmas.Bool.{both_ways}
 use Rattle.compare.specs.Behind.{AreFoundBehind, CertifiesAllBehind, CertifiesBehind, IsBehind, WritesAllBehind, WritesBehind}
 use Rattle.compare.specs.StubTold.{stub_text}
 use Rattle.maker.specs.Answer.{IsAnswer, WritesAnswer}
-use Rattle.maker.specs.Certified.{Certifies, IsConvicted, IsOfFilter, IsOpen, IsUndecided}
+use Rattle.maker.specs.Certified.{Certifies, IsRefuted, IsOfFilter, IsOpen, IsUndecided}
 use Rattle.maker.specs.Finding.{IsFinding, TellsFinding, WritesFinding}
 use Rattle.maker.specs.declared.check.Finding.{Finding}
 use Rattle.maker.specs.declared.check.Finding.TheVariants.{Yes, No, NoProfile}
@@ -28,8 +28,8 @@ use Rattle.wording.specs.declared.told.End.{End}
 use Rattle.wording.specs.declared.told.Told.{Told}
 use Rattle.cli.specs.Told.{TellsFilter}
 use Rattle.compare.specs.declared.behind_runc.stub.calls.Calls.{Calls}
-use Rattle.maker.specs.declared.evidence.evidence.Conviction.{Conviction}
-use Rattle.compare.specs.Convictions.{AllConvict, Convicts, TellsAll}
+use Rattle.maker.specs.declared.evidence.evidence.Counterexample.{Counterexample}
+use Rattle.compare.specs.Counterexamples.{AllRefute, Refutes, TellsAll}
 use Rattle.cli.specs.Explained.{TellsAllBehind, TellsBehind, TellsStub, WritesFound, WritesSome}
 use Rattle.cli.specs.Files.{IsEnough}
 use Rattle.cli.specs.Recovered.{TellsBy, TellsIf, has_word, leave_in, leaves_out}
@@ -100,7 +100,7 @@ module _ (native : Arch) (bundle filter f : List ℕ) (enough : IsEnough 32768 f
       rec = h.rec;
       given = h.given;
       said = h.said;
-      is = subst (λ x. IsConvicted native bundle x h.rec h.given h.said) (whole_filter filter f enough h.is.judged.program) h.is;
+      is = subst (λ x. IsRefuted native bundle x h.rec h.given h.said) (whole_filter filter f enough h.is.judged.program) h.is;
       written = h.written;
       told = h.told;
     }))
@@ -112,17 +112,17 @@ module _ (native : Arch) (bundle filter f : List ℕ) (enough : IsEnough 32768 f
     })))
     certified_of_file result (inr (inr (inr h))) = inr (inr (inr h))
 
-    -- each record that convicts the bytes that were read convicts the file
-    all_of_file : (all : List Conviction) → AllConvict native bundle f all → AllConvict native bundle filter all
+    -- each record that refutes the bytes that were read refutes the file
+    all_of_file : (all : List Counterexample) → AllRefute native bundle f all → AllRefute native bundle filter all
     all_of_file all h = λ k d lt.
-        subst (λ x. Convicts native bundle x (slice_index_or all k d)) (whole_filter filter f enough (h k d lt).1.program) (h k d lt)
+        subst (λ x. Refutes native bundle x (slice_index_or all k d)) (whole_filter filter f enough (h k d lt).1.program) (h k d lt)
 
     pub tells_all_of_file : (result : Result Bool WriteFault) → TellsAll held failures old new native bundle f result
         → TellsAll held failures old new native bundle filter result
     tells_all_of_file result (inl h) = inl (record {
       found = h.found;
       all = h.all;
-      are = record { further = h.are.further; first = h.are.first; convict = all_of_file h.all h.are.convict };
+      are = record { further = h.are.further; first = h.are.first; refute = all_of_file h.all h.are.refute };
       written = h.written;
     })
     tells_all_of_file result (inr lacks) = inr lacks
@@ -154,10 +154,10 @@ module _ (native : Arch) (bundle filter f : List ℕ) (enough : IsEnough 32768 f
       behind_of_file (inr lacks) = inr lacks
 
       -- so is what was found where no stub was
-      found_of_file : (found : Conviction) (all : List Conviction) (answered : List Calls) (whole : Bool)
+      found_of_file : (found : Counterexample) (all : List Counterexample) (answered : List Calls) (whole : Bool)
           → AreFoundBehind native bundle f answered whole found all → AreFoundBehind native bundle filter [] true found all
       found_of_file found all answered whole h = record {
-        are = record { further = h.are.further; first = h.are.first; convict = all_of_file all h.are.convict };
+        are = record { further = h.are.further; first = h.are.first; refute = all_of_file all h.are.refute };
         passed = λ no. absurd (both_ways true no refl);
       }
 
@@ -185,7 +185,7 @@ module _ (native : Arch) (bundle filter f : List ℕ) (enough : IsEnough 32768 f
       all_behind_of_file (inl h) = all_behind_by h.0 h.1 h.2 h.3 h.4
       all_behind_of_file (inr lacks) = inr lacks
 
-      found_written : (rest : List ℕ) (answered : List Calls) (whole : Bool) (all : List Conviction) → rest ≡ f
+      found_written : (rest : List ℕ) (answered : List Calls) (whole : Bool) (all : List Counterexample) → rest ≡ f
           → WritesFound held failures old new native bundle f rest answered whole all result
           → WritesFound held failures old new native bundle filter filter [] true all result
       found_written rest answered whole all same (inl h) =

@@ -29,7 +29,7 @@ use Rattle.explain.specs.Any.{IsExplained as IsExplainedAny}
 use Rattle.explain.specs.Audit.{IsAudited}
 use Rattle.show.specs.Shown.{IsDrawn}
 use Rattle.compare.specs.Behind.{CertifiesAllBehind, CertifiesBehind}
-use Rattle.compare.specs.Convictions.{TellsAll}
+use Rattle.compare.specs.Counterexamples.{TellsAll}
 use Rattle.cli.specs.Compared.{TellsCompared}
 use Rattle.compare.specs.FiltersTold.{IsTold}
 use Rattle.strace_logs.specs.Given.{GivesAll}
@@ -248,7 +248,7 @@ module _ {O : Type 0} (held : O → Option (List ℕ)) (failures : O → Failure
       ⊎ ((b : List ℕ) × (f : List ℕ) × HasBundle native folder bundle b × HasFilter native folder filter f
       × AnswersBy (CertifiesAllBehind held failures old new native b f) result)
 
-  -- with `all` what it writes without, or the lines of records that convict the filter
+  -- with `all` what it writes without, or the lines of records that refute the filter
   abbrev pub AnswersAll : Arch → List ℕ → List ℕ → Result Bool Stop → Type 0
   AnswersAll native bundle filter result =
       StopsAtFile folder old new (bundle ∷ filter ∷ []) result

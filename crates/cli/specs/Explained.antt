@@ -5,12 +5,12 @@ use Rattle.call_record.specs.Record.{words}
 use Rattle.machines.specs.declared.arch.Arch.{Arch}
 use Rattle.machines.specs.Arch.{family_of}
 use Rattle.compare.specs.Behind.{AreFoundBehind, IsBehind, WritesBehind}
-use Rattle.compare.specs.Convictions.{WritesLines}
+use Rattle.compare.specs.Counterexamples.{WritesLines}
 use Rattle.compare.specs.StubTold.{stub_text}
-use Rattle.maker.specs.evidence.Conviction.{IsCertificate}
-use Rattle.maker.specs.declared.evidence.evidence.Conviction.{Conviction}
+use Rattle.maker.specs.evidence.Counterexample.{IsCertificate}
+use Rattle.maker.specs.declared.evidence.evidence.Counterexample.{Counterexample}
 use Rattle.maker.specs.declared.evidence.evidence.Evidence.{Evidence}
-use Rattle.maker.specs.declared.evidence.evidence.Evidence.TheVariants.{Convicting}
+use Rattle.maker.specs.declared.evidence.evidence.Evidence.TheVariants.{Refuting}
 use Rattle.explain.specs.Explanation.{Explains}
 use Rattle.maker.specs.Told.{IsLine}
 use Rattle.maker.specs.declared.make_error.MakeError.{MakeError}
@@ -72,23 +72,23 @@ pub record TellsBehind {O E : Type 0} (held : O → Option (List ℕ)) (failures
   pub why : (err' ≡ between) ⊎ TellsRecord held failures out out' shown dropped between err' native bundle
 
 -- each of these records was explained in order, or it was not
-abbrev pub MayTellEach : {E : Type 0} → (E → Option (List ℕ)) → (E → Failures) → Arch → List ℕ → List Conviction → E → E → Type 0
+abbrev pub MayTellEach : {E : Type 0} → (E → Option (List ℕ)) → (E → Failures) → Arch → List ℕ → List Counterexample → E → E → Type 0
 MayTellEach shown dropped native bundle [] err err' = err' ≡ err
 MayTellEach shown dropped native bundle (found ∷ more) err err' =
     (between : _) × MayTellWhy shown dropped err between native bundle found.call
     × MayTellEach shown dropped native bundle more between err'
 
 -- these are the records that were found: none, or the one of the evidence and further ones
-abbrev pub AreFoundOf : Arch → List ℕ → List ℕ → List Calls → Bool → Result Evidence MakeError → List Conviction → Type 0
-AreFoundOf native bundle filter answered whole (Ok (Convicting found)) all = AreFoundBehind native bundle filter answered whole found all
+abbrev pub AreFoundOf : Arch → List ℕ → List ℕ → List Calls → Bool → Result Evidence MakeError → List Counterexample → Type 0
+AreFoundOf native bundle filter answered whole (Ok (Refuting found)) all = AreFoundBehind native bundle filter answered whole found all
 AreFoundOf native bundle filter answered whole other all = all ≡ []
 
 -- the lines of all records that were found behind a stub were written; or what is written without `all`, if no record was found
 abbrev pub WritesFound : {O : Type 0} → (O → Option (List ℕ)) → (O → Failures) → O → O → Arch → List ℕ → List ℕ → List ℕ → List Calls
-    → Bool → List Conviction → Result Bool WriteFault → Type 0
+    → Bool → List Counterexample → Result Bool WriteFault → Type 0
 WritesFound held failures out out' native bundle filter rest answered whole all result =
     ((all ≡ []) × WritesBehind held failures out out' native bundle filter rest answered whole result)
-    ⊎ ((found : Conviction) × AreFoundBehind native bundle filter answered whole found all × WritesLines held failures out out' all result)
+    ⊎ ((found : Counterexample) × AreFoundBehind native bundle filter answered whole found all × WritesLines held failures out out' all result)
 
 -- What was written of all records that are found behind a stub. On standard error are the calls that the stub answers. Behind
 -- them is an explanation of each record whose line was written.
@@ -99,7 +99,7 @@ pub record TellsAllBehind {O E : Type 0} (held : O → Option (List ℕ)) (failu
   pub answered : List Calls
   pub whole : Bool
   pub behind : IsBehind filter rest answered
-  pub all : List Conviction
+  pub all : List Counterexample
   pub written : WritesFound held failures out out' native bundle filter rest answered whole all result
   pub between : E
   pub calls : TellsStub shown dropped err between native filter rest answered whole

@@ -1,11 +1,11 @@
 //! What `ccell certify .. runc all` does: it judges a filter behind runc's stub, and does not stop at the first call.
 ghost use Rattle.std.specs.Prelude.{◌≡◌, ◌⊎◌, ℕ, IfOk, List, Ok, OnErr};
 ghost use Rattle.machines.specs.declared.arch.Arch.{Arch as TheArch};
-ghost use Rattle.compare.specs.Behind.{CertifiesAllBehind, IsBehind, IsJudgedBehind, IsNoConviction, WritesBehind};
-ghost use Rattle.compare.specs.Convictions.{WritesLines};
-ghost use Rattle.maker.specs.declared.evidence.evidence.Conviction.{Conviction as TheConviction};
-ghost use Rattle.maker.specs.declared.evidence.evidence.Evidence.TheVariants.{Convicting};
-ghost use Rattle.maker.specs.evidence.Conviction.{IsCertificate};
+ghost use Rattle.compare.specs.Behind.{CertifiesAllBehind, IsBehind, IsJudgedBehind, IsNoCounterexample, WritesBehind};
+ghost use Rattle.compare.specs.Counterexamples.{WritesLines};
+ghost use Rattle.maker.specs.declared.evidence.evidence.Counterexample.{Counterexample as TheCounterexample};
+ghost use Rattle.maker.specs.declared.evidence.evidence.Evidence.TheVariants.{Refuting};
+ghost use Rattle.maker.specs.evidence.Counterexample.{IsCertificate};
 ghost use Rattle.compare.specs.declared.behind_runc.stub.calls.Calls.{Calls as TheCalls};
 ghost use Rattle.maker.specs.Exported.{LacksMemory};
 ghost use Rattle.cli.specs.Dispatch.{AnswersAllBehind, ExplainsAllBehind};
@@ -16,10 +16,10 @@ use crate::comparing::{put_text, tell_why};
 use crate::files::{Files, read_document, read_filter};
 use crate::stops::Stop;
 use compare::{
-    Behind, Judged, behind_stub, convictions_behind, judge_behind, write_behind, write_convictions,
+    Behind, Judged, behind_stub, counterexamples_behind, judge_behind, write_behind, write_counterexamples,
 };
 use machines::Arch;
-use maker::{Conviction, Evidence};
+use maker::{Counterexample, Evidence};
 use profile_json::Document;
 use std::alloc::Global;
 use texts::{Sink, WriteFault};
@@ -28,7 +28,7 @@ use texts::{Sink, WriteFault};
 pub(crate) fn explain_each<E: Sink>(
     alloc: Global,
     document: &Document,
-    all: &[Conviction],
+    all: &[Counterexample],
     err: &mut E,
 )
     ensures { MayTellEach E.held E.failures document.now.native document.now.bytes all.now err.old err.new }
@@ -47,31 +47,31 @@ fn write_evidence<O: Sink>(
     alloc: Global,
     judged: &Judged,
     evidence: &Evidence,
-    all: &[Conviction],
+    all: &[Counterexample],
     out: &mut O,
 ) -> Result<bool, WriteFault>
-    ensures found { (one : TheConviction) → evidence.now ≡ Convicting one
+    ensures found { (one : TheCounterexample) → evidence.now ≡ Refuting one
         → WritesLines O.held O.failures out.old out.new all.now result ⊎ LacksMemory out.old out.new result }
     ensures none { IsCertificate evidence.now → (native : TheArch) (bundle filter rest : List ℕ) (answered : List TheCalls)
         → IsBehind filter rest answered → IsJudgedBehind native bundle filter rest answered judged.now.whole judged.now.evidence
         → WritesBehind O.held O.failures out.old out.new native bundle filter rest answered judged.now.whole result }
 {
     match evidence {
-        Evidence::Convicting(_) => write_convictions(alloc, all, out),
+        Evidence::Refuting(_) => write_counterexamples(alloc, all, out),
         Evidence::Certificate(_) => write_behind(alloc, judged, out),
     }
 }
 
-// Writes what is judged of a filter behind a stub: the lines of all records that were found, if it is convicted.
+// Writes what is judged of a filter behind a stub: the lines of all records that were found, if it is refuted.
 fn write_found<O: Sink>(
     alloc: Global,
     judged: &Judged,
-    all: &[Conviction],
+    all: &[Counterexample],
     out: &mut O,
 ) -> Result<bool, WriteFault>
-    ensures found { (one : TheConviction) → judged.now.evidence ≡ Ok (Convicting one)
+    ensures found { (one : TheCounterexample) → judged.now.evidence ≡ Ok (Refuting one)
         → WritesLines O.held O.failures out.old out.new all.now result ⊎ LacksMemory out.old out.new result }
-    ensures none { IsNoConviction judged.now.evidence → (native : TheArch) (bundle filter rest : List ℕ) (answered : List TheCalls)
+    ensures none { IsNoCounterexample judged.now.evidence → (native : TheArch) (bundle filter rest : List ℕ) (answered : List TheCalls)
         → IsBehind filter rest answered → IsJudgedBehind native bundle filter rest answered judged.now.whole judged.now.evidence
         → WritesBehind O.held O.failures out.old out.new native bundle filter rest answered judged.now.whole result }
 {
@@ -103,7 +103,7 @@ fn judge<O: Sink, E: Sink>(
         Ok(lines) => lines,
         Err(_no_memory) => return Err(WriteFault::OutOfMemory),
     };
-    let all = match convictions_behind(alloc, document, filter, &behind, &judged) {
+    let all = match counterexamples_behind(alloc, document, filter, &behind, &judged) {
         Ok(all) => all,
         Err(_no_memory) => return Err(WriteFault::OutOfMemory),
     };

@@ -4,8 +4,8 @@ ghost use Rattle.aside.specs.declared.leave.Leave.{Leave as TheLeave};
 ghost use Rattle.aside.specs.Judged.{IsJudged, stub_calls};
 ghost use Rattle.aside.specs.Told.{AreFoundBut, CertifiesBut};
 ghost use Rattle.compare.specs.Behind.{IsBehind};
-ghost use Rattle.maker.specs.declared.evidence.evidence.Conviction.{Conviction as TheConviction};
-ghost use Rattle.maker.specs.declared.evidence.evidence.Evidence.TheVariants.{Convicting};
+ghost use Rattle.maker.specs.declared.evidence.evidence.Counterexample.{Counterexample as TheCounterexample};
+ghost use Rattle.maker.specs.declared.evidence.evidence.Evidence.TheVariants.{Refuting};
 ghost use Rattle.cli.specs.Dispatch.{AnswersBut, asks_runc, leave_of};
 ghost use Rattle.cli.specs.Parts.{read};
 
@@ -15,10 +15,10 @@ use crate::comparing::{put_text, tell_found};
 use crate::files::{Files, read_document, read_filter};
 use crate::parts::{Parts, asks, leave_of};
 use crate::stops::Stop;
-use aside::{But, Leave, convictions_but, judge_but, write_found};
+use aside::{But, Leave, counterexamples_but, judge_but, write_found};
 use compare::{Behind, behind_stub};
 use machines::Arch;
-use maker::Conviction;
+use maker::Counterexample;
 use profile_json::Document;
 use std::alloc::{AllocError, Global};
 use texts::{Sink, WriteFault};
@@ -66,15 +66,15 @@ fn all_of(
     behind: &Behind<'_>,
     but: &But,
     all: bool,
-) -> Result<Vec<Conviction>, AllocError>
+) -> Result<Vec<Counterexample>, AllocError>
     requires { (leave : TheLeave) × IsJudged document.now.native document.now.bytes filter.now behind.now.rest.now behind.now.answered.items leave
         but.now.aside.items but.now.judged.whole but.now.judged.evidence }
-    ensures { IfOk result (λ all. (all.items ≡ []) ⊎ ((found : TheConviction) × (but.now.judged.evidence ≡ Ok (Convicting found))
+    ensures { IfOk result (λ all. (all.items ≡ []) ⊎ ((found : TheCounterexample) × (but.now.judged.evidence ≡ Ok (Refuting found))
         × AreFoundBut document.now.native document.now.bytes filter.now (stub_calls but.now.judged.whole behind.now.answered.items) but.now.aside.items found
         all.items)) }
 {
     if all {
-        return convictions_but(alloc, document, filter, behind, but);
+        return counterexamples_but(alloc, document, filter, behind, but);
     }
     Ok(Vec::new(alloc))
 }
@@ -92,7 +92,7 @@ fn tell<E: Sink>(
     document: &Document,
     lines: String,
     but: &But,
-    all: &[Conviction],
+    all: &[Counterexample],
     err: &mut E,
 ) {
     put_text(lines, err);

@@ -16,7 +16,7 @@ use machines::Arch;
 use std::alloc::Global;
 use texts::Sink;
 
-// Writes a certificate, or why there is none. A record that convicts the filter is told in plain sentences too.
+// Writes a certificate, or why there is none. A record that refutes the filter is told in plain sentences too.
 fn certify<'a, F: Files, O: Sink, E: Sink>(
     alloc: Global,
     native: Arch,

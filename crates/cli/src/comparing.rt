@@ -1,13 +1,13 @@
 //! What `ccell certify` writes, and what it says of a record on standard error.
 ghost use Rattle.std.specs.Prelude.{◌≡◌, ◌⊎◌, Ok, OnErr, false, string_bytes, true};
 ghost use Rattle.cli.specs.Explained.{HasNoRecord, MayTellWhy, TellsRecord, WritesSome};
-ghost use Rattle.maker.specs.declared.evidence.evidence.Conviction.{Conviction as TheConviction};
-ghost use Rattle.maker.specs.declared.evidence.evidence.Evidence.TheVariants.{Convicting};
-ghost use Rattle.maker.specs.evidence.Conviction.{IsCertificate};
+ghost use Rattle.maker.specs.declared.evidence.evidence.Counterexample.{Counterexample as TheCounterexample};
+ghost use Rattle.maker.specs.declared.evidence.evidence.Evidence.TheVariants.{Refuting};
+ghost use Rattle.maker.specs.evidence.Counterexample.{IsCertificate};
 ghost use Rattle.maker.specs.Certified.{Certifies};
 
 use compare::explain_found;
-use maker::{Conviction, Evidence, MakeError, judge_bundle, write_judged};
+use maker::{Counterexample, Evidence, MakeError, judge_bundle, write_judged};
 use profile_json::Document;
 use std::alloc::Global;
 use texts::{Sink, WriteFault, write_all};
@@ -19,8 +19,8 @@ pub(crate) fn put_text<E: Sink>(text: String, err: &mut E)
     let _ = write_all(text.as_bytes(), err);
 }
 
-/// Explains a record that convicts a filter, if there is memory.
-pub(crate) fn tell_why<E: Sink>(alloc: Global, document: &Document, found: &Conviction, err: &mut E)
+/// Explains a record that refutes a filter, if there is memory.
+pub(crate) fn tell_why<E: Sink>(alloc: Global, document: &Document, found: &Counterexample, err: &mut E)
     ensures { MayTellWhy E.held E.failures err.old err.new document.now.native document.now.bytes found.now.call }
 {
     match explain_found(alloc, document, found) {
@@ -31,12 +31,12 @@ pub(crate) fn tell_why<E: Sink>(alloc: Global, document: &Document, found: &Conv
 
 // Explains the record of the evidence, if it is one.
 fn tell_evidence<E: Sink>(alloc: Global, document: &Document, evidence: &Evidence, err: &mut E)
-    ensures why { (found : TheConviction) → evidence.now ≡ Convicting found
+    ensures why { (found : TheCounterexample) → evidence.now ≡ Refuting found
         → MayTellWhy E.held E.failures err.old err.new document.now.native document.now.bytes found.call }
     ensures quiet { IsCertificate evidence.now → err.new ≡ err.old }
 {
     match evidence {
-        Evidence::Convicting(found) => tell_why(alloc, document, found, err),
+        Evidence::Refuting(found) => tell_why(alloc, document, found, err),
         Evidence::Certificate(_) => {}
     }
 }
@@ -48,7 +48,7 @@ pub(crate) fn tell_found<E: Sink>(
     judged: &Result<Evidence, MakeError>,
     err: &mut E,
 )
-    ensures why { (found : TheConviction) → judged.now ≡ Ok (Convicting found)
+    ensures why { (found : TheCounterexample) → judged.now ≡ Ok (Refuting found)
         → MayTellWhy E.held E.failures err.old err.new document.now.native document.now.bytes found.call }
     ensures quiet { HasNoRecord judged.now → err.new ≡ err.old }
 {

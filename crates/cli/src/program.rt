@@ -30,7 +30,7 @@ use crate::recovering::recovered;
 use crate::remarking::remark_on;
 use crate::reviewing::review_as;
 use crate::run::run_bundles;
-use crate::showing::{annotated, drawn, read_out, rules};
+use crate::showing::{annotated, drawn, describe, rules};
 use crate::stops::Stop;
 use crate::telling::{assembled, compare_as, linted, record, tell, tell_both};
 use command_line::{Command, CommandLine, read_arguments};
@@ -116,7 +116,7 @@ fn read_as<'a, F: Files, O: Sink>(
     if parts.three == "rules" {
         return tell(rules(alloc, parts.native, parts.two, files), out);
     }
-    tell(read_out(alloc, parts.native, parts.two, files), out)
+    tell(describe(alloc, parts.native, parts.two, files), out)
 }
 
 // Carries a command out: true where it answered a verdict or yes, wrote what was asked for or ran a script, false where it
@@ -132,12 +132,12 @@ fn obey<'a, F: Files, I: Source, O: Sink, E: Sink>(
 ) -> Result<bool, Stop<'a>>
     ensures does { DoesWith I.left I.failures O.held O.failures (F.folder files.old) input.old input.new out.old out.new
         command (read parts.entry) result }
-    // Nothing is told on standard error but of a filter that is convicted, of a stub, and of what was changed.
+    // Nothing is told on standard error but of a filter that is refuted, of a stub, and of what was changed.
     ensures stopped { OnErr result ((ends_told result ≡ true) ⊎ (err.new ≡ err.old)) }
     ensures quiet { result ≡ Ok true → TellsChanges command (read parts.entry) ⊎ (err.new ≡ err.old) }
     ensures no { result ≡ Ok false → TellsRefusal command (read parts.entry) ⊎ (err.new ≡ err.old) }
     ensures refused { ends_told result ≡ true → TellsRefusal command (read parts.entry) ⊎ (err.new ≡ err.old) }
-    // Of a filter that is convicted the record is explained that was told.
+    // Of a filter that is refuted the record is explained that was told.
     ensures explained { ExplainsBy O.held O.failures E.held E.failures (F.folder files.old) out.old out.new err.old err.new
         command (read parts.entry) result }
 {

@@ -117,13 +117,13 @@ fn hinted(alloc: Global, document: &Document, told: Told) -> Result<Told, AllocE
 fn described(alloc: Global, document: &Document) -> Result<Told, AllocError>
     ensures { IfOk result (TellsRead document.now.native document.now.bytes) }
 {
-    let meaning = show::read_out(alloc, document)?;
+    let meaning = show::describe(alloc, document)?;
     let told = with_names(alloc, document, meaning)?;
     hinted(alloc, document, told)
 }
 
 /// What a bundle means, or where it is wrong.
-pub(crate) fn read_out<'a, F: Files>(
+pub(crate) fn describe<'a, F: Files>(
     alloc: Global,
     native: Arch,
     bundle: &'a str,

@@ -1,11 +1,11 @@
--- What convicts the rest behind a stub, beside the whole filter.
+-- What refutes the rest behind a stub, beside the whole filter.
 use Rattle.std.proofs.Common.{◌≡◌, ◌≢◌, ◌↔◌, ◌==◌, ℕ, List, Bool, false, true, sym, ◌∙◌, subst, inl, inr}
 use Rattle.std.specs.Prelude.{IsTrue}
 use Rattle.call_record.specs.Record.{words}
 use Rattle.call_record.specs.Words.{IsRecord}
 use Rattle.machines.specs.declared.arch.Arch.{Arch}
-use Rattle.maker.specs.declared.evidence.evidence.Conviction.{Conviction}
-use Rattle.maker.specs.declared.evidence.evidence.Evidence.TheVariants.{Convicting}
+use Rattle.maker.specs.declared.evidence.evidence.Counterexample.{Counterexample}
+use Rattle.maker.specs.declared.evidence.evidence.Evidence.TheVariants.{Refuting}
 use Rattle.maker.specs.Certified.{IsEvidenceFor}
 use Rattle.compare.specs.declared.behind_runc.stub.calls.Calls.{Calls}
 use Rattle.compare.specs.Stub.{IsAnswered, IsOf, enosys}
@@ -28,10 +28,10 @@ module _ (answered calls : List Calls) (r : List ℕ) (told : Bool) (iff : IsTru
 pub other_than : (n : ℕ) (told : Bool) → told ≡ (n == enosys) → told ≡ false → n ≢ enosys
 other_than n told is unlike e = subst IsNo (sym (subst (λ m. (m == enosys) ≡ false) e (sym is ∙ unlike))) tt
 
-module _ (native : Arch) (bundle filter rest : List ℕ) (answered : List Calls) (found : Conviction) (is : IsRecord (words found.call)) where
-  -- a record that the stub does not answer convicts the whole
+module _ (native : Arch) (bundle filter rest : List ℕ) (answered : List Calls) (found : Counterexample) (is : IsRecord (words found.call)) where
+  -- a record that the stub does not answer refutes the whole
   pub passed : IsBehind filter rest answered → (IsAnswered answered (words found.call) → ⊥)
-      → IsEvidenceFor native bundle rest (Convicting found) → IsEvidenceFor native bundle filter (Convicting found)
+      → IsEvidenceFor native bundle rest (Refuting found) → IsEvidenceFor native bundle filter (Refuting found)
   passed (inl has) passes evidence = (
     evidence.0,
     record { means = evidence.1.means; program = has.filter_is.program; accepted = has.filter_is.accepted },
@@ -41,12 +41,12 @@ module _ (native : Arch) (bundle filter rest : List ℕ) (answered : List Calls)
       unlike = evidence.2.unlike;
     },
   )
-  passed (inr whole) passes evidence = subst (λ (f : List ℕ). IsEvidenceFor native bundle f (Convicting found)) whole.0 evidence
+  passed (inr whole) passes evidence = subst (λ (f : List ℕ). IsEvidenceFor native bundle f (Refuting found)) whole.0 evidence
 
-  -- one that it answers convicts the whole by the answer, if the bundle says another verdict
+  -- one that it answers refutes the whole by the answer, if the bundle says another verdict
   pub stopped : IsBehind filter rest answered → IsAnswered answered (words found.call) → found.said ≢ enosys
-      → IsEvidenceFor native bundle rest (Convicting found)
-      → IsEvidenceFor native bundle filter (Convicting (record { call = found.call; given = enosys; said = found.said }))
+      → IsEvidenceFor native bundle rest (Refuting found)
+      → IsEvidenceFor native bundle filter (Refuting (record { call = found.call; given = enosys; said = found.said }))
   stopped (inl has) h other evidence = (
     evidence.0,
     record { means = evidence.1.means; program = has.filter_is.program; accepted = has.filter_is.accepted },

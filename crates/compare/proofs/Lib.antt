@@ -4,7 +4,7 @@ mod SidesLaws
 mod ToldLaws
 mod LineLaws
 mod FilterLineLaws
-pub mod ConvictionLineLaws
+pub mod CounterexampleLineLaws
 mod PastLaws
 mod SpelledLaws
 mod LintedLaws

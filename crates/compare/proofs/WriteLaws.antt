@@ -7,10 +7,10 @@ use Rattle.call_record.proofs.RecordLemmas.{words-is_record}
 use Rattle.call_record.specs.Record.{words}
 use Rattle.machines.specs.declared.arch.Arch.{Arch}
 use Rattle.cert_check.specs.Right.{IsRight}
-use Rattle.maker.specs.declared.evidence.evidence.Conviction.{Conviction}
+use Rattle.maker.specs.declared.evidence.evidence.Counterexample.{Counterexample}
 use Rattle.maker.specs.declared.evidence.evidence.Evidence.{Evidence}
-use Rattle.maker.specs.declared.evidence.evidence.Evidence.TheVariants.{Certificate, Convicting}
-use Rattle.maker.specs.Certified.{Certifies, CertifiesOwn, IsEvidenceFor, IsJudgement, IsOwnJudgement, WritesConviction}
+use Rattle.maker.specs.declared.evidence.evidence.Evidence.TheVariants.{Certificate, Refuting}
+use Rattle.maker.specs.Certified.{Certifies, CertifiesOwn, IsEvidenceFor, IsJudgement, IsOwnJudgement, WritesCounterexample}
 use Rattle.maker.specs.Exported.{LacksMemory, Refuses}
 use Rattle.maker.specs.Told.{Tells}
 use Rattle.maker.specs.declared.make_error.MakeError.{MakeError}
@@ -24,7 +24,7 @@ use Rattle.texts.specs.Failures.{Failures}
 use Rattle.texts.specs.Sink.{WritesMade}
 use Rattle.texts.specs.declared.streams.fault.WriteFault.{WriteFault}
 use Rattle.compare.specs.declared.behind_runc.stub.calls.Calls.{Calls}
-use Rattle.compare.specs.Behind.{IsBehind, IsFound, IsJudgedBehind, IsNoConviction, MeansRight, MeansSparing, WritesBehind}
+use Rattle.compare.specs.Behind.{IsBehind, IsFound, IsJudgedBehind, IsNoCounterexample, MeansRight, MeansSparing, WritesBehind}
 use Rattle.compare.specs.Spared.{IsRightBehind, Spares}
 use Rattle.compare.specs.Stub.{IsOf}
 use Rattle.compare.proofs.RightLaws.{spared_is_right}
@@ -58,22 +58,22 @@ module _ (native : Arch) (bundle filter rest : List ℕ) (answered : List Calls)
       (whole_is_right policy filter (subst (λ (f : List ℕ). IsRight policy (insns_of f)) whole.0 right))
 
   pub means_right : IsBehind filter rest answered → MeansSparing native bundle answered → (evidence : Evidence)
-      → IsEvidenceFor native bundle rest evidence → IsNoConviction (Ok evidence) → MeansRight native bundle filter answered
+      → IsEvidenceFor native bundle rest evidence → IsNoCounterexample (Ok evidence) → MeansRight native bundle filter answered
   means_right behind (policy, means, spares) (Certificate cert) is none =
       let same = one_policy native bundle is.0 policy is.1 means in (
         policy,
         means,
         rest_is_right policy behind (subst (λ (p : Policy). IsRight p (insns_of rest)) same is.2.right) spares,
       )
-  means_right behind sparing (Convicting found) is none = absurd none
+  means_right behind sparing (Refuting found) is none = absurd none
 
 module _ {S : Type 0} (held : S → Option (List ℕ)) (failures : S → Failures) (old new : S) (native : Arch) (bundle filter rest : List ℕ)
     (answered : List Calls) (result : Result Bool WriteFault) where
-  -- the line of a record that convicts the whole filter
-  conviction_told : (found : Conviction) → IsEvidenceFor native bundle filter (Convicting found)
+  -- the line of a record that refutes the whole filter
+  counterexample_told : (found : Counterexample) → IsEvidenceFor native bundle filter (Refuting found)
       → Tells held failures old new (words found.call) found.given found.said result
       → WritesBehind held failures old new native bundle filter rest answered false result
-  conviction_told found is (inl h) =
+  counterexample_told found is (inl h) =
       inl (record {
         rec = h.is.rec;
         given = found.given;
@@ -82,12 +82,12 @@ module _ {S : Type 0} (held : S → Option (List ℕ)) (failures : S → Failure
           policy = is.0;
           judged = is.1;
           call = record { size = h.is.size; bytes = h.is.bytes; words = rw h.is.same (words-is_record found.call) };
-          convicts = rw h.is.same is.2;
+          refutes = rw h.is.same is.2;
         };
         written = subst (λ (bytes : List ℕ). WritesMade held failures old new bytes result) h.is.is h.written;
         told = h.told;
       })
-  conviction_told found is (inr lacks) = inr (inr (inr lacks))
+  counterexample_told found is (inr lacks) = inr (inr (inr lacks))
 
   -- of the reason why there is neither
   module _ (make_error : MakeError) where
@@ -112,13 +112,13 @@ module _ {S : Type 0} (held : S → Option (List ℕ)) (failures : S → Failure
         → ((n : Arch) (b f : List ℕ) → IsJudgement n b f (Ok evidence) → Certifies held failures old new n b f result)
         → ((n : Arch) (b f : List ℕ) → IsJudgement n b f (Ok evidence) → IsOwnJudgement (Ok evidence)
         → CertifiesOwn held failures old new n b f result)
-        → ((found : Conviction) → judged_as evidence ≡ Ok (Convicting found)
+        → ((found : Counterexample) → judged_as evidence ≡ Ok (Refuting found)
         → Tells held failures old new (words found.call) found.given found.said result)
         → IsJudgedBehind native bundle filter rest answered whole (Ok evidence)
         → WritesBehind held failures old new native bundle filter rest answered whole result
     of_evidence true evidence found own told is = found native bundle filter is
-    of_evidence false (Convicting conviction) found own told (inl is) = conviction_told conviction is.0 (told conviction refl)
-    of_evidence false (Convicting conviction) found own told (inr is) = absurd is.1
+    of_evidence false (Refuting counterexample) found own told (inl is) = counterexample_told counterexample is.0 (told counterexample refl)
+    of_evidence false (Refuting counterexample) found own told (inr is) = absurd is.1
     of_evidence false (Certificate cert) found own told (inl is) = absurd (is.1 tt)
     of_evidence false (Certificate cert) found own told (inr is) =
         certified (own native bundle rest is.0 tt) (means_right native bundle filter rest answered behind is.2 (Certificate cert) is.0 tt)
@@ -129,7 +129,7 @@ module _ {S : Type 0} (held : S → Option (List ℕ)) (failures : S → Failure
         ((n : Arch) (b f : List ℕ) → IsJudgement n b f judged → Certifies held failures old new n b f result)
         → ((n : Arch) (b f : List ℕ) → IsJudgement n b f judged → IsOwnJudgement judged
         → CertifiesOwn held failures old new n b f result)
-        → ((found : Conviction) → judged ≡ Ok (Convicting found)
+        → ((found : Counterexample) → judged ≡ Ok (Refuting found)
         → Tells held failures old new (words found.call) found.given found.said result)
         → IsJudgedBehind native bundle filter rest answered whole judged
         → WritesBehind held failures old new native bundle filter rest answered whole result

@@ -5,10 +5,10 @@ use Rattle.call_record.specs.Record.{words}
 use Rattle.machines.specs.declared.arch.Arch.{Arch}
 use Rattle.bpf_insn.specs.Bytes.{insns_of, view_fault}
 use Rattle.kernel_check.specs.Accepted.{IsAccepted}
-use Rattle.maker.specs.evidence.Conviction.{IsCertificate}
-use Rattle.maker.specs.declared.evidence.evidence.Conviction.{Conviction}
+use Rattle.maker.specs.evidence.Counterexample.{IsCertificate}
+use Rattle.maker.specs.declared.evidence.evidence.Counterexample.{Counterexample}
 use Rattle.maker.specs.declared.evidence.evidence.Evidence.{Evidence}
-use Rattle.maker.specs.Certified.{Certifies, IsJudgement, WritesCertificate, WritesConviction, WritesOpen}
+use Rattle.maker.specs.Certified.{Certifies, IsJudgement, WritesCertificate, WritesCounterexample, WritesOpen}
 use Rattle.maker.specs.Exported.{LacksMemory}
 use Rattle.maker.specs.Finding.{IsBundle}
 use Rattle.maker.specs.declared.make_error.MakeError.{MakeError}
@@ -17,7 +17,7 @@ use Rattle.texts.specs.declared.streams.fault.WriteFault.{WriteFault}
 use Rattle.profile.specs.Policy.{Policy}
 use Rattle.compare.specs.declared.behind_runc.stub.calls.Calls.{Calls}
 use Rattle.compare.specs.Spared.{IsRightBehind, Spares}
-use Rattle.compare.specs.Convictions.{AreFound, WritesLines}
+use Rattle.compare.specs.Counterexamples.{AreFound, WritesLines}
 use Rattle.compare.specs.Stub.{IsAnswered, IsStub}
 
 -- the bytes are a program that the kernel accepts
@@ -36,15 +36,15 @@ pub record HasStub (filter rest : List ℕ) (answered : List Calls) : Type 0 whe
 abbrev pub IsBehind : List ℕ → List ℕ → List Calls → Type 0
 IsBehind filter rest answered = HasStub filter rest answered ⊎ ((rest ≡ filter) × (answered ≡ []))
 
--- it is a record that convicts
+-- it is a record that refutes
 abbrev pub IsFound : Result Evidence MakeError → Type 0
 IsFound (Ok evidence) = IsCertificate evidence → ⊥
 IsFound (Err e) = ⊥
 
 -- it is none
-abbrev pub IsNoConviction : Result Evidence MakeError → Type 0
-IsNoConviction (Ok evidence) = IsCertificate evidence
-IsNoConviction (Err e) = ⊤
+abbrev pub IsNoCounterexample : Result Evidence MakeError → Type 0
+IsNoCounterexample (Ok evidence) = IsCertificate evidence
+IsNoCounterexample (Err e) = ⊤
 
 -- the bundle means a profile that spares the calls
 abbrev pub MeansSparing : Arch → List ℕ → List Calls → Type 0
@@ -61,7 +61,7 @@ abbrev pub IsJudgedBehind : Arch → List ℕ → List ℕ → List ℕ → List
 IsJudgedBehind native bundle filter rest answered true judged = IsJudgement native bundle filter judged
 IsJudgedBehind native bundle filter rest answered false judged =
     (IsJudgement native bundle filter judged × IsFound judged)
-    ⊎ (IsJudgement native bundle rest judged × IsNoConviction judged × MeansSparing native bundle answered)
+    ⊎ (IsJudgement native bundle rest judged × IsNoCounterexample judged × MeansSparing native bundle answered)
 
 -- What is written. If the whole filter is asked about: what `ccell certify` writes of it. If the rest is: a counterexample to the whole
 -- filter. Or it is a certificate with which the checker says yes of the rest. Then the whole filter is right but for the stub's calls. Or
@@ -71,7 +71,7 @@ abbrev pub WritesBehind : {S : Type 0} → (S → Option (List ℕ)) → (S → 
 WritesBehind held failures old new native bundle filter rest answered true result =
     Certifies held failures old new native bundle filter result
 WritesBehind held failures old new native bundle filter rest answered false result =
-    WritesConviction held failures old new native bundle filter result
+    WritesCounterexample held failures old new native bundle filter result
     ⊎ ((WritesCertificate held failures old new native bundle rest result × MeansRight native bundle filter answered)
     ⊎ ((WritesOpen held failures old new native bundle rest result × MeansSparing native bundle answered) ⊎ LacksMemory old new result))
 
@@ -86,21 +86,21 @@ CertifiesBehind held failures old new native bundle filter result =
 -- ---- all records behind the stub
 
 -- the stub does not answer its record
-abbrev pub IsNotAnswered : List Calls → Conviction → Type 0
+abbrev pub IsNotAnswered : List Calls → Counterexample → Type 0
 IsNotAnswered answered found = IsAnswered answered (words found.call) → ⊥
 
--- What was found of a filter behind a stub: the record that was found first, and then further ones. Each convicts the whole filter. Where
+-- What was found of a filter behind a stub: the record that was found first, and then further ones. Each refutes the whole filter. Where
 -- the rest is asked about, the stub answers none of the further ones.
-pub record AreFoundBehind (native : Arch) (bundle filter : List ℕ) (answered : List Calls) (whole : Bool) (found : Conviction)
-    (all : List Conviction) : Type 0 where
+pub record AreFoundBehind (native : Arch) (bundle filter : List ℕ) (answered : List Calls) (whole : Bool) (found : Counterexample)
+    (all : List Counterexample) : Type 0 where
   pub are : AreFound native bundle filter found all
   pub passed : whole ≡ false → All (IsNotAnswered answered) are.further
 
 -- what was written are the lines of such records, one at least
 pub record WritesAllBehind {S : Type 0} (held : S → Option (List ℕ)) (failures : S → Failures) (old new : S) (native : Arch)
     (bundle filter : List ℕ) (answered : List Calls) (whole : Bool) (result : Result Bool WriteFault) : Type 0 where
-  pub found : Conviction
-  pub all : List Conviction
+  pub found : Counterexample
+  pub all : List Counterexample
   pub are : AreFoundBehind native bundle filter answered whole found all
   pub written : WritesLines held failures old new all result
 

@@ -6,7 +6,7 @@ pub mod Outcome
 pub mod Told
 pub mod Differ
 pub mod FiltersTold
-pub mod Convictions
+pub mod Counterexamples
 pub mod NoMore
 pub mod inner
 pub mod Past

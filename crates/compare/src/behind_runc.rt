@@ -6,7 +6,7 @@ mod spared;
 mod stub;
 mod text;
 
-pub use all::convictions_behind;
+pub use all::counterexamples_behind;
 pub use behind::{Behind, behind_stub};
 pub use judged::{Judged, judge_behind, write_behind};
 pub use spared::spares;

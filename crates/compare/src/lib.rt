@@ -6,8 +6,8 @@
 mod behind_runc;
 mod calls;
 mod change;
-mod convicting;
-mod convictions;
+mod refuting;
+mod counterexamples;
 mod difference;
 mod equal;
 mod filters;
@@ -19,12 +19,12 @@ mod text;
 mod told;
 
 pub use behind_runc::{
-    Behind, Calls, Judged, behind_stub, calls_text, convictions_behind, is_answered, judge_behind,
+    Behind, Calls, Judged, behind_stub, calls_text, counterexamples_behind, is_answered, judge_behind,
     spares, stub_text, write_behind,
 };
 pub use change::Change;
-pub use convicting::explain_found;
-pub use convictions::{convictions_of, write_convictions};
+pub use refuting::explain_found;
+pub use counterexamples::{counterexamples_of, write_counterexamples};
 pub use difference::{Difference, difference_on};
 pub use filters::{compare_filters, find_differences};
 pub use outcome::Comparison;

@@ -4,7 +4,7 @@ use Rattle.machines.specs.declared.arch.Arch.{Arch}
 use Rattle.cert_check.specs.declared.checked.Checked.{Checked}
 use Rattle.export.specs.Forms.{bytes_in}
 use Rattle.export.specs.declared.form.Form.TheVariants.{Raw}
-use Rattle.maker.specs.Certified.{IsConvicted, IsOpen, conviction_line}
+use Rattle.maker.specs.Certified.{IsRefuted, IsOpen, counterexample_line}
 use Rattle.maker.specs.Exported.{IsCheckedOf, IsMakeError, line_of}
 use Rattle.maker.specs.Finding.{IsFinding, is_yes}
 use Rattle.maker.specs.Finding as finding
@@ -35,13 +35,13 @@ pub record IsNoOf (native : Arch) (bundle filter cert bytes : List ℕ) : Type 0
   pub no_yes : is_yes found ≡ false
   pub written : bytes ≡ finding.line_of found
 
--- the bytes are the line of a call record that convicts the filter
-pub record IsConvictionOf (native : Arch) (bundle filter bytes : List ℕ) : Type 0 where
+-- the bytes are the line of a call record that refutes the filter
+pub record IsCounterexampleOf (native : Arch) (bundle filter bytes : List ℕ) : Type 0 where
   pub rec : List ℕ
   pub given : ℕ
   pub said : ℕ
-  pub is : IsConvicted native bundle filter rec given said
-  pub written : bytes ≡ conviction_line rec given said
+  pub is : IsRefuted native bundle filter rec given said
+  pub written : bytes ≡ counterexample_line rec given said
 
 -- the bytes are the line that says why there is neither a certificate nor such a record
 pub record IsOpenOf (native : Arch) (bundle filter bytes : List ℕ) : Type 0 where
@@ -49,9 +49,9 @@ pub record IsOpenOf (native : Arch) (bundle filter bytes : List ℕ) : Type 0 wh
   pub is : IsOpen native bundle filter make_error
   pub written : bytes ≡ line_of make_error
 
--- the bytes are the line of a call record that convicts the filter, or that says why there is neither
+-- the bytes are the line of a call record that refutes the filter, or that says why there is neither
 abbrev pub IsNoCertificateOf : Arch → List ℕ → List ℕ → List ℕ → Type 0
-IsNoCertificateOf native bundle filter bytes = IsConvictionOf native bundle filter bytes ⊎ IsOpenOf native bundle filter bytes
+IsNoCertificateOf native bundle filter bytes = IsCounterexampleOf native bundle filter bytes ⊎ IsOpenOf native bundle filter bytes
 
 -- what is written of a bundle and a filter: a certificate to which the checker says yes, or why there is none
 abbrev pub IsCertifiedAs : Arch → List ℕ → List ℕ → List ℕ → Type 0

@@ -1,4 +1,4 @@
--- What certify writes, by what its parts do; and a certificate and a record that convicts exclude one another.
+-- What certify writes, by what its parts do; and a certificate and a record that refutes exclude one another.
 use Rattle.std.proofs.Common.{◌≡◌, ◌<◌, ◌++◌, append_assoc, ℕ, length, String, Global, inl, inr, Bool, true, List, refl, sym, subst, ◌∙◌}
 use Rattle.std.specs.Global.{Vec}
 use Rattle.std.specs.Prelude.{[], IfOk, IfSome, slice_index, string_bytes, Option, Some, None, Result, Ok, Err, ◌≢◌}
@@ -19,10 +19,10 @@ use Rattle.cert_check.proofs.ValidLaws.{kept}
 use Rattle.certify.specs.declared.error.CertifyError.{CertifyError}
 use Rattle.certify.specs.declared.error.CertifyError.TheVariants as maker
 use Rattle.call_record.specs.Record.{words}
-use Rattle.maker.specs.evidence.Conviction.{Convicts, IsConviction, IsEvidence}
-use Rattle.maker.specs.declared.evidence.evidence.Conviction.{Conviction}
+use Rattle.maker.specs.evidence.Counterexample.{Refutes, IsCounterexample, IsEvidence}
+use Rattle.maker.specs.declared.evidence.evidence.Counterexample.{Counterexample}
 use Rattle.maker.specs.declared.evidence.evidence.Evidence.{Evidence}
-use Rattle.maker.specs.declared.evidence.evidence.Evidence.TheVariants.{Certificate, Convicting}
+use Rattle.maker.specs.declared.evidence.evidence.Evidence.TheVariants.{Certificate, Refuting}
 use Rattle.certify.specs.Error.{IsOfSize}
 use Rattle.rule_compile.specs.Steady.{IsSteady, Nothing}
 use Rattle.texts.specs.Failures.{Failures}
@@ -39,7 +39,7 @@ use Rattle.profile_json.proofs.unbroken.Unbroken.{meaning_is_one, meaning_is_unb
 use Rattle.maker.proofs.ExportLaws.{as_failed}
 use Rattle.maker.proofs.FindingLaws.{no_fault, one_policy}
 use Rattle.maker.specs.Certified.{AreJudged, Certifies, CertifiesOwn, EvidenceExcludes, IsOpen, IsOwnFilter, WritesCertificate}
-use Rattle.maker.specs.Certified.{IsEvidenceFor, IsJudgement, IsOwnJudgement, conviction_line}
+use Rattle.maker.specs.Certified.{IsEvidenceFor, IsJudgement, IsOwnJudgement, counterexample_line}
 use Rattle.maker.specs.Exported.{IsToldAs, Refuses}
 use Rattle.maker.specs.Finding.{IsBundle, IsYes}
 use Rattle.maker.specs.declared.make_error.MakeError.{MakeError}
@@ -58,7 +58,7 @@ formatted (Err e) made line same h = h
 
 -- the bytes of these words are told
 pub line_told : {E : Type 0} (rec words : List ℕ) (given said : ℕ) (r : Result (String Global) E) → length rec ≡ 64
-    → ((i : ℕ) → slice_index rec i < 256) → words_of rec ≡ words → IfOk r (λ line. string_bytes line ≡ conviction_line rec given said)
+    → ((i : ℕ) → slice_index rec i < 256) → words_of rec ≡ words → IfOk r (λ line. string_bytes line ≡ counterexample_line rec given said)
     → IfOk r (λ line. IsLine words given said (string_bytes line))
 line_told rec words given said (Ok line) size bytes same h =
     record { rec = rec; size = size; bytes = bytes; same = same; is = h }
@@ -82,11 +82,11 @@ module _ {S : Type 0} (held : S → Option (List ℕ)) (failures : S → Failure
       inl (subst (λ (r : Result Bool WriteFault). TellsLine held failures old new words given said r) (sym e) here)
 
 -- the record's words, under another name of their list
-convicts_on : (policy : Policy) (p q : List Insn) (r s : List ℕ) (given said : ℕ) → q ≡ p → r ≡ s → Convicts policy q s given said
-    → Convicts policy p r given said
-convicts_on policy p q r s given said same words h =
-    subst (λ (t : List ℕ). Convicts policy p t given said) (sym words)
-    (subst (λ (i : List Insn). Convicts policy i s given said) same h)
+refutes_on : (policy : Policy) (p q : List Insn) (r s : List ℕ) (given said : ℕ) → q ≡ p → r ≡ s → Refutes policy q s given said
+    → Refutes policy p r given said
+refutes_on policy p q r s given said same words h =
+    subst (λ (t : List ℕ). Refutes policy p t given said) (sym words)
+    (subst (λ (i : List Insn). Refutes policy i s given said) same h)
 
 module _ (native : Arch) (bundle filter : List ℕ) where
   -- a fault of the maker, beside a filter that the kernel accepts
@@ -113,9 +113,9 @@ module _ (native : Arch) (bundle filter : List ℕ) where
 
 module _ {S : Type 0} (held : S → Option (List ℕ)) (failures : S → Failures) (old new : S) (native : Arch) (bundle filter : List ℕ) where
   pub record_told : (policy : Policy) (p : List Insn) (words : List ℕ) (given said : ℕ) (result : Result Bool WriteFault)
-      → AreJudged native bundle filter policy → p ≡ insns_of filter → IsRecord words → Convicts policy p words given said
+      → AreJudged native bundle filter policy → p ≡ insns_of filter → IsRecord words → Refutes policy p words given said
       → Tells held failures old new words given said result → Certifies held failures old new native bundle filter result
-  record_told policy p words given said result judged same is convicts (inl h) =
+  record_told policy p words given said result judged same is refutes (inl h) =
       inr (inl (record {
         rec = h.is.rec;
         given = given;
@@ -124,12 +124,12 @@ module _ {S : Type 0} (held : S → Option (List ℕ)) (failures : S → Failure
           policy = policy;
           judged = judged;
           call = record { size = h.is.size; bytes = h.is.bytes; words = subst IsRecord (sym h.is.same) is };
-          convicts = convicts_on policy (insns_of filter) p (words_of h.is.rec) words given said same h.is.same convicts;
+          refutes = refutes_on policy (insns_of filter) p (words_of h.is.rec) words given said same h.is.same refutes;
         };
         written = subst (λ (bytes : List ℕ). WritesMade held failures old new bytes result) h.is.is h.written;
         told = h.told;
       }))
-  record_told policy p words given said result judged same is convicts (inr h) = inr (inr (inr h))
+  record_told policy p words given said result judged same is refutes (inr h) = inr (inr (inr h))
 
 -- with a valid certificate of an accepted filter the checker says yes
 pub yes_of_valid : (policy : Policy) (p : List Insn) (filter cert : List ℕ) → IsClear policy.rules → p ≡ insns_of filter
@@ -154,8 +154,8 @@ pub evidence_for : (native : Arch) (bundle filter : List ℕ) (policy : Policy) 
     → IsEvidenceFor native bundle filter e
 evidence_for native bundle filter policy p (Certificate cert) judged clear same valid =
     (policy, judged.means, yes_of_valid policy p filter cert.items clear same judged.program judged.accepted valid)
-evidence_for native bundle filter policy p (Convicting found) judged clear same convicts =
-    (policy, judged, subst (λ (q : List Insn). IsConviction policy q found) same convicts)
+evidence_for native bundle filter policy p (Refuting found) judged clear same refutes =
+    (policy, judged, subst (λ (q : List Insn). IsCounterexample policy q found) same refutes)
 
 -- a fault of the bundle
 pub profile_open : (native : Arch) (bundle filter : List ℕ) (e : ProfileError) (u : MakeError)
@@ -183,23 +183,23 @@ module _ {S : Type 0} (held : S → Option (List ℕ)) (failures : S → Failure
 
   module _ (native : Arch) (bundle filter : List ℕ) where
     -- a record that is found is told
-    pub evidence_convicting : (evidence : Evidence) (found : Conviction) (result : Result Bool WriteFault) → evidence ≡ Convicting found
+    pub evidence_refuting : (evidence : Evidence) (found : Counterexample) (result : Result Bool WriteFault) → evidence ≡ Refuting found
         → IsEvidenceFor native bundle filter evidence → IsRecord (words found.call)
         → Tells held failures old new (words found.call) found.given found.said result
         → Certifies held failures old new native bundle filter result
-    evidence_convicting evidence found result e is call told =
-        let here : IsEvidenceFor native bundle filter (Convicting found) = subst (λ (x : Evidence). IsEvidenceFor native bundle filter x) e is in
+    evidence_refuting evidence found result e is call told =
+        let here : IsEvidenceFor native bundle filter (Refuting found) = subst (λ (x : Evidence). IsEvidenceFor native bundle filter x) e is in
         record_told held failures old new native bundle filter here.0 (insns_of filter) (words found.call) found.given found.said result
         here.1 refl call here.2 told
 
 -- where the filter is right it gives the profile's verdict
-right_is_not_convicted : (policy : Policy) (p : List Insn) (r : List ℕ) (given said : ℕ) → IsRight policy p → IsRecord r
-    → Convicts policy p r given said → ⊥
-right_is_not_convicted policy p r given said right is h =
+right_is_not_refuted : (policy : Policy) (p : List Insn) (r : List ℕ) (given said : ℕ) → IsRight policy p → IsRecord r
+    → Refutes policy p r given said → ⊥
+right_is_not_refuted policy p r given said right is h =
     h.unlike (same_Some given said (sym h.gives ∙ (right r is said).1 h.says))
 
 pub evidence_excludes : MeaningIsOne → EvidenceExcludes
-evidence_excludes one native bundle filter cert rec given said found convicted =
-    let same : found.0 ≡ convicted.policy = one_policy one native bundle found.0 convicted.policy found.1 convicted.judged.means in
-    right_is_not_convicted convicted.policy (insns_of filter) (words_of rec) given said
-    (subst (λ (q : Policy). IsRight q (insns_of filter)) same found.2.right) convicted.call.words convicted.convicts
+evidence_excludes one native bundle filter cert rec given said found refuted =
+    let same : found.0 ≡ refuted.policy = one_policy one native bundle found.0 refuted.policy found.1 refuted.judged.means in
+    right_is_not_refuted refuted.policy (insns_of filter) (words_of rec) given said
+    (subst (λ (q : Policy). IsRight q (insns_of filter)) same found.2.right) refuted.call.words refuted.refutes

@@ -9,8 +9,8 @@ use Rattle.certify.proofs.TellingLaws.{steady_telling}
 use Rattle.certify.specs.declared.error.CertifyError.{CertifyError}
 use Rattle.profile.specs.Policy.{Policy}
 use Rattle.maker.specs.declared.evidence.evidence.Evidence.{Evidence}
-use Rattle.maker.specs.declared.evidence.evidence.Evidence.TheVariants.{Certificate, Convicting}
-use Rattle.maker.specs.evidence.Conviction.{IsEvidence, JudgesSteady, JudgesTelling, ShowsRight}
+use Rattle.maker.specs.declared.evidence.evidence.Evidence.TheVariants.{Certificate, Refuting}
+use Rattle.maker.specs.evidence.Counterexample.{IsEvidence, JudgesSteady, JudgesTelling, ShowsRight}
 
 pub judged_of_telling : (p : List Insn) (result : Result Evidence CertifyError) → JudgesTelling p result → JudgesSteady p result
 judged_of_telling p result telling steady = telling (steady_telling p steady)
@@ -19,5 +19,5 @@ pub shows_right : (policy : Policy) (p : List Insn) (result : Result Evidence Ce
     → ((cert : List ℕ) → IsValidCertificate policy p cert → IsRight policy p) → IfOk result (IsEvidence policy p)
     → ShowsRight policy p result
 shows_right policy p (Ok (Certificate bytes)) shows valid = λ _. shows bytes.items valid
-shows_right policy p (Ok (Convicting found)) shows convicts = λ h. absurd h
+shows_right policy p (Ok (Refuting found)) shows refutes = λ h. absurd h
 shows_right policy p (Err e) shows none = tt

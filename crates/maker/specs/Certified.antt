@@ -11,9 +11,9 @@ use Rattle.kernel_check.specs.Accepted.{IsAccepted}
 use Rattle.profile.specs.Policy.{Policy}
 use Rattle.rule_compile.specs.Shape.{IsCallFilter, IsPlain}
 use Rattle.rule_compile.specs.Steady.{IsSteady, Nothing}
-use Rattle.maker.specs.evidence.Conviction.{Convicts, IsCertificate, IsConviction}
+use Rattle.maker.specs.evidence.Counterexample.{Refutes, IsCertificate, IsCounterexample}
 use Rattle.maker.specs.declared.evidence.evidence.Evidence.{Evidence}
-use Rattle.maker.specs.declared.evidence.evidence.Evidence.TheVariants.{Certificate, Convicting}
+use Rattle.maker.specs.declared.evidence.evidence.Evidence.TheVariants.{Certificate, Refuting}
 use Rattle.certify.specs.declared.error.CertifyError.{CertifyError}
 use Rattle.certify.specs.declared.error.CertifyError.TheVariants as maker
 use Rattle.cert_check.specs.Certified.{IsFirst}
@@ -42,19 +42,19 @@ pub record AreRecord (rec : List ℕ) : Type 0 where
   pub words : IsRecord (words_of rec)
 
 -- on a call record the filter gives one verdict, and the profile that the bundle means says another
-pub record IsConvicted (native : Arch) (bundle filter rec : List ℕ) (given said : ℕ) : Type 0 where
+pub record IsRefuted (native : Arch) (bundle filter rec : List ℕ) (given said : ℕ) : Type 0 where
   pub policy : Policy
   pub judged : AreJudged native bundle filter policy
   pub call : AreRecord rec
-  pub convicts : Convicts policy (insns_of filter) (words_of rec) given said
+  pub refutes : Refutes policy (insns_of filter) (words_of rec) given said
 
 -- the line that says it: two hexadecimal digits for each byte of the record, and both verdicts
 abbrev pub digits_line : List ℕ → ℕ → ℕ → List ℕ
 digits_line digits given said =
     codes "no record " ++ digits ++ codes " filter " ++ verdict.text_of given ++ codes " profile " ++ verdict.text_of said ++ line_feed ∷ []
 
-abbrev pub conviction_line : List ℕ → ℕ → ℕ → List ℕ
-conviction_line rec given said = digits_line (encode_lower rec) given said
+abbrev pub counterexample_line : List ℕ → ℕ → ℕ → List ℕ
+counterexample_line rec given said = digits_line (encode_lower rec) given said
 
 -- a fault of the filter's bytes or of the kernel's check
 abbrev pub IsOfFilter : CheckError → Type 0
@@ -84,8 +84,8 @@ IsOpen native bundle filter OutOfMemory = ⊥
 -- the filter, for the profile that the bundle means.
 abbrev pub IsEvidenceFor : Arch → List ℕ → List ℕ → Evidence → Type 0
 IsEvidenceFor native bundle filter (Certificate cert) = (policy : Policy) × IsBundle native bundle policy × IsYes policy filter cert.items
-IsEvidenceFor native bundle filter (Convicting found) =
-    (policy : Policy) × AreJudged native bundle filter policy × IsConviction policy (insns_of filter) found
+IsEvidenceFor native bundle filter (Refuting found) =
+    (policy : Policy) × AreJudged native bundle filter policy × IsCounterexample policy (insns_of filter) found
 
 -- what is judged: the evidence, or why there is none
 abbrev pub IsJudgement : Arch → List ℕ → List ℕ → Result Evidence MakeError → Type 0
@@ -105,14 +105,14 @@ pub record WritesCertificate {S : Type 0} (held : S → Option (List ℕ)) (fail
   pub written : WritesMade held failures old new cert result
   pub told : IfOk result (λ done. done ≡ true)
 
--- what was written is the line of a record that convicts the filter, and the answer is false
-pub record WritesConviction {S : Type 0} (held : S → Option (List ℕ)) (failures : S → Failures) (old new : S) (native : Arch)
+-- what was written is the line of a record that refutes the filter, and the answer is false
+pub record WritesCounterexample {S : Type 0} (held : S → Option (List ℕ)) (failures : S → Failures) (old new : S) (native : Arch)
     (bundle filter : List ℕ) (result : Result Bool WriteFault) : Type 0 where
   pub rec : List ℕ
   pub given : ℕ
   pub said : ℕ
-  pub is : IsConvicted native bundle filter rec given said
-  pub written : WritesMade held failures old new (conviction_line rec given said) result
+  pub is : IsRefuted native bundle filter rec given said
+  pub written : WritesMade held failures old new (counterexample_line rec given said) result
   pub told : IfOk result (λ done. done ≡ false)
 
 -- what was written is the line that says why there is neither, and the answer is false
@@ -128,7 +128,7 @@ abbrev pub Certifies : {S : Type 0} → (S → Option (List ℕ)) → (S → Fai
     → Result Bool WriteFault → Type 0
 Certifies held failures old new native bundle filter result =
     WritesCertificate held failures old new native bundle filter result
-    ⊎ (WritesConviction held failures old new native bundle filter result
+    ⊎ (WritesCounterexample held failures old new native bundle filter result
     ⊎ (WritesOpen held failures old new native bundle filter result ⊎ LacksMemory old new result))
 
 -- The bundle means the profile, which is plain. The filter's bytes are a program of the shape that the compiler gives to the
@@ -145,8 +145,8 @@ abbrev pub CertifiesOwn : {S : Type 0} → (S → Option (List ℕ)) → (S → 
 CertifiesOwn held failures old new native bundle filter result =
     WritesCertificate held failures old new native bundle filter result ⊎ LacksMemory old new result
 
--- no filter has both a certificate with which the checker says yes and a record that convicts it
+-- no filter has both a certificate with which the checker says yes and a record that refutes it
 abbrev pub EvidenceExcludes : Type 0
 EvidenceExcludes =
     (native : Arch) (bundle filter cert rec : List ℕ) (given said : ℕ) → IsFinding native bundle filter cert Yes
-    → IsConvicted native bundle filter rec given said → ⊥
+    → IsRefuted native bundle filter rec given said → ⊥

@@ -4,7 +4,7 @@ use Rattle.call_record.specs.Words.{words_of}
 use Rattle.texts.specs.Failures.{Failures}
 use Rattle.texts.specs.Sink.{WritesMade}
 use Rattle.texts.specs.declared.streams.fault.WriteFault.{WriteFault}
-use Rattle.maker.specs.Certified.{conviction_line}
+use Rattle.maker.specs.Certified.{counterexample_line}
 use Rattle.maker.specs.Exported.{LacksMemory}
 
 -- the line tells the bytes of these words
@@ -13,7 +13,7 @@ pub record IsLine (words : List ℕ) (given said : ℕ) (line : List ℕ) : Type
   pub size : length rec ≡ 64
   pub bytes : (i : ℕ) → slice_index rec i < 256
   pub same : words_of rec ≡ words
-  pub is : line ≡ conviction_line rec given said
+  pub is : line ≡ counterexample_line rec given said
 
 -- what was written is such a line, and the answer is false
 pub record TellsLine {S : Type 0} (held : S → Option (List ℕ)) (failures : S → Failures) (old new : S) (words : List ℕ) (given said : ℕ)

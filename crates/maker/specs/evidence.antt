@@ -1,3 +1,3 @@
 pub mod Tables
-pub mod Conviction
+pub mod Counterexample
 pub mod Right

@@ -1,19 +1,19 @@
-//! From a bundle and a filter to a certificate, or to a call record that convicts the filter.
+//! From a bundle and a filter to a certificate, or to a call record that refutes the filter.
 ghost use Rattle.std.specs.Prelude.{◌≡◌, ◌<◌, ℕ, List, Ok, IfOk, length, slice_index, string_bytes};
 ghost use Rattle.call_record.specs.Record.{words};
 ghost use Rattle.bpf_insn.specs.Bytes.{insns_of};
 ghost use Rattle.kernel_check.specs.Lent.{accepted_insns};
 ghost use Rattle.machines.specs.declared.arch.Arch.{Arch as TheArch};
-ghost use Rattle.maker.specs.declared.evidence.evidence.Conviction.{Conviction as TheConviction};
-ghost use Rattle.maker.specs.declared.evidence.evidence.Evidence.TheVariants.{Convicting};
-ghost use Rattle.maker.specs.evidence.Conviction.{IsCertificate};
+ghost use Rattle.maker.specs.declared.evidence.evidence.Counterexample.{Counterexample as TheCounterexample};
+ghost use Rattle.maker.specs.declared.evidence.evidence.Evidence.TheVariants.{Refuting};
+ghost use Rattle.maker.specs.evidence.Counterexample.{IsCertificate};
 ghost use Rattle.maker.specs.Certified.{AreJudged, Certifies, CertifiesOwn, IsEvidenceFor, IsJudgement, IsOwnFilter, IsOwnJudgement};
-ghost use Rattle.maker.specs.Certified.{conviction_line, digits_line};
+ghost use Rattle.maker.specs.Certified.{counterexample_line, digits_line};
 ghost use Rattle.profile.specs.Policy.{Policy};
 ghost use Rattle.maker.specs.Finding.{IsBundle};
 ghost use Rattle.maker.specs.Told.{IsLine, IsWritten, Tells};
 
-use crate::evidence::{Conviction, Evidence, judge};
+use crate::evidence::{Counterexample, Evidence, judge};
 use crate::make_error::{MakeError, refuse};
 use bpf_insn::Program;
 use call_record::{Word, words_are_a_record};
@@ -41,14 +41,14 @@ fn line_with(alloc: Global, digits: &str, given: Word, said: Word) -> Result<Str
 
 // The line that tells a record by its bytes, with two verdicts.
 fn line_text(alloc: Global, bytes: &[u8], given: Word, said: Word) -> Result<String, AllocError>
-    ensures { IfOk result (λ line. string_bytes line ≡ conviction_line bytes.now given said) }
+    ensures { IfOk result (λ line. string_bytes line ≡ counterexample_line bytes.now given said) }
 {
     let digits = hex::encode(alloc, bytes)?;
     line_with(alloc, digits.as_str(), given, said)
 }
 
-/// The line that tells a conviction.
-pub fn line_of(alloc: Global, found: &Conviction) -> Result<String, AllocError>
+/// The line that tells a counterexample.
+pub fn line_of(alloc: Global, found: &Counterexample) -> Result<String, AllocError>
     ensures { IfOk result (λ line. IsLine (words found.now.call) found.now.given found.now.said (string_bytes line)) }
 {
     let bytes = found.call.to_bytes();
@@ -56,8 +56,8 @@ pub fn line_of(alloc: Global, found: &Conviction) -> Result<String, AllocError>
     line_text(alloc, &bytes, found.given, found.said)
 }
 
-// Writes the line that tells a conviction. The answer is false.
-fn tell<S: Sink>(alloc: Global, found: &Conviction, sink: &mut S) -> Result<bool, WriteFault>
+// Writes the line that tells a counterexample. The answer is false.
+fn tell<S: Sink>(alloc: Global, found: &Counterexample, sink: &mut S) -> Result<bool, WriteFault>
     ensures { Tells S.held S.failures sink.old sink.new (words found.now.call) found.now.given found.now.said result }
 {
     let Ok(line) = line_of(alloc, found) else {
@@ -140,7 +140,7 @@ fn write_certificate<S: Sink>(certificate: &[u8], sink: &mut S) -> Result<bool, 
     Ok(true)
 }
 
-// Writes the evidence on a filter: the certificate, where the answer is true, or the line of the very record that convicts it.
+// Writes the evidence on a filter: the certificate, where the answer is true, or the line of the very record that refutes it.
 fn write_evidence<S: Sink>(
     alloc: Global,
     evidence: &Evidence,
@@ -150,12 +150,12 @@ fn write_evidence<S: Sink>(
         → Certifies S.held S.failures sink.old sink.new native bundle filter result }
     ensures own { (native : TheArch) (bundle filter : List ℕ) → IsEvidenceFor native bundle filter evidence.now
         → IsCertificate evidence.now → CertifiesOwn S.held S.failures sink.old sink.new native bundle filter result }
-    ensures told { (found : TheConviction) → evidence.now ≡ Convicting found
+    ensures told { (found : TheCounterexample) → evidence.now ≡ Refuting found
         → Tells S.held S.failures sink.old sink.new (words found.call) found.given found.said result }
 {
     match evidence {
         Evidence::Certificate(certificate) => write_certificate(certificate, sink),
-        Evidence::Convicting(found) => {
+        Evidence::Refuting(found) => {
             words_are_a_record(&found.call);
             tell(alloc, found, sink)
         }
@@ -174,7 +174,7 @@ pub fn write_judged<S: Sink>(
     ensures own { (native : TheArch) (bundle filter : List ℕ) → IsJudgement native bundle filter judged.now → IsOwnJudgement judged.now
         → CertifiesOwn S.held S.failures sink.old sink.new native bundle filter result }
     // The record that is told is the one that was found.
-    ensures told { (found : TheConviction) → judged.now ≡ Ok (Convicting found)
+    ensures told { (found : TheCounterexample) → judged.now ≡ Ok (Refuting found)
         → Tells S.held S.failures sink.old sink.new (words found.call) found.given found.said result }
 {
     match judged {

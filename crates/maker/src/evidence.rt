@@ -14,7 +14,7 @@ mod maker;
 mod own;
 
 pub(crate) use asked::has_too_many;
-pub use evidence::{Conviction, Evidence, judge};
+pub use evidence::{Counterexample, Evidence, judge};
 pub(crate) use hand::Hand;
 pub use law::{compiled_is_right, shape_is_right, table_profiles_are_plain};
 pub(crate) use maker::{are_plain, propose, propose_shared};

@@ -22,7 +22,7 @@ pub fn findings_exclude()
     meaning_is_one();
 }
 
-/// No filter has both a certificate with which the checker says yes beside a bundle and a call record that convicts it.
+/// No filter has both a certificate with which the checker says yes beside a bundle and a call record that refutes it.
 pub fn evidence_excludes()
     ensures { EvidenceExcludes }
 {

@@ -20,7 +20,7 @@ pub use certifying::{certify_bundle, judge_bundle, judge_filter, line_of, write_
 pub use check::{Finding, check_line, finding_of};
 pub use checked_bundle::CheckedBundle;
 pub use evidence::{
-    Conviction, Evidence, compiled_is_right, judge, shape_is_right, table_profiles_are_plain,
+    Counterexample, Evidence, compiled_is_right, judge, shape_is_right, table_profiles_are_plain,
 };
 pub use exporting::export_bundle;
 pub use law::{bundles_are_plain, evidence_excludes, findings_exclude, one_answer};

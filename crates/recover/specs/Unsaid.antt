@@ -18,7 +18,7 @@ use Rattle.bpf_insn.specs.declared.instruction.Insn.{Insn}
 use Rattle.bpf_insn.specs.Machine.{verdict_of}
 use Rattle.kernel_check.specs.Accepted.{IsRefusal}
 use Rattle.maker.specs.Certified.{IsEvidenceFor, IsJudgement}
-use Rattle.maker.specs.declared.evidence.evidence.Evidence.TheVariants.{Convicting}
+use Rattle.maker.specs.declared.evidence.evidence.Evidence.TheVariants.{Refuting}
 use Rattle.recover.specs.declared.unsaid.Shown.{Shown}
 use Rattle.recover.specs.declared.unsaid.Unsaid.{Unsaid}
 use Rattle.recover.specs.declared.unsaid.Unsaid.TheVariants as why
@@ -99,7 +99,7 @@ IsUndrafted native filter other = IsSeen (family_of native) (insns_of filter) ot
 -- What a reason says of a filter's bytes and of the bundle that was drafted for them and judged, if one was.
 abbrev pub IsUnrecovered : Arch → List ℕ → Unsaid → Option (List ℕ) → Type 0
 IsUnrecovered native filter unsaid None = IsUndrafted native filter unsaid
-IsUnrecovered native filter (why.Unlike found) (Some draft) = IsEvidenceFor native draft filter (Convicting found)
+IsUnrecovered native filter (why.Unlike found) (Some draft) = IsEvidenceFor native draft filter (Refuting found)
 IsUnrecovered native filter (why.Undecided make_error) (Some draft) = IsJudgement native draft filter (Err make_error)
 IsUnrecovered native filter other (Some draft) = ⊥
 
@@ -108,6 +108,6 @@ IsUnrecovered native filter other (Some draft) = ⊥
 abbrev pub IsUnsaid : Arch → List ℕ → Unsaid → Type 0
 IsUnsaid native filter (why.View fault) = view_fault filter ≡ Some fault
 IsUnsaid native filter (why.Kernel refused) = (view_fault filter ≡ None) × IsRefusal (insns_of filter) refused
-IsUnsaid native filter (why.Unlike found) = (bundle : List ℕ) × IsEvidenceFor native bundle filter (Convicting found)
+IsUnsaid native filter (why.Unlike found) = (bundle : List ℕ) × IsEvidenceFor native bundle filter (Refuting found)
 IsUnsaid native filter (why.Undecided make_error) = (bundle : List ℕ) × IsJudgement native bundle filter (Err make_error)
 IsUnsaid native filter other = IsSeen (family_of native) (insns_of filter) other

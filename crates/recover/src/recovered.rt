@@ -61,7 +61,7 @@ pub fn draft_of(
     draft_by(alloc, native, filter, passed, Taste::First)
 }
 
-// The bundle, if the evidence on it and the filter is a certificate, or what convicts the filter.
+// The bundle, if the evidence on it and the filter is a certificate, or what refutes the filter.
 fn handed_out(evidence: Evidence, bundle: String) -> Result<String, Unrecovered>
     ensures recovered { (native : TheArch) (filter : List ℕ) → IsEvidenceFor native (string_bytes bundle) filter evidence
         → IfOk result (λ text. IsRecovered native (string_bytes text) filter) }
@@ -72,7 +72,7 @@ fn handed_out(evidence: Evidence, bundle: String) -> Result<String, Unrecovered>
 {
     match evidence {
         Evidence::Certificate(_certificate) => Ok(bundle),
-        Evidence::Convicting(found) => Err(Unrecovered {
+        Evidence::Refuting(found) => Err(Unrecovered {
             unsaid: Unsaid::Unlike(found),
             draft: Some(bundle),
         }),

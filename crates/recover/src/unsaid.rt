@@ -2,7 +2,7 @@
 use bpf_insn::ViewError;
 use call_record::{Record, Word};
 use kernel_check::Refused;
-use maker::{Conviction, MakeError};
+use maker::{Counterexample, MakeError};
 use std::alloc::{AllocError, AllocFailed};
 
 /// A call record, and the verdict that the filter gives it.
@@ -38,7 +38,7 @@ pub enum Unsaid {
     /// A section has no room for it, or a call is asked too much.
     TooLarge,
     /// What was written says another verdict.
-    Unlike(Conviction),
+    Unlike(Counterexample),
     /// It was not shown that what was written says the same.
     Undecided(MakeError),
     /// There is not enough memory.

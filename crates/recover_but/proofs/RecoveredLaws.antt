@@ -5,7 +5,7 @@ use Rattle.bpf_insn.specs.Bytes.{insns_of}
 use Rattle.machines.specs.declared.arch.Arch.{Arch}
 use Rattle.machines.specs.declared.arch.Family.{Family}
 use Rattle.maker.specs.declared.evidence.evidence.Evidence.{Evidence}
-use Rattle.maker.specs.declared.evidence.evidence.Evidence.TheVariants.{Certificate, Convicting}
+use Rattle.maker.specs.declared.evidence.evidence.Evidence.TheVariants.{Certificate, Refuting}
 use Rattle.maker.specs.declared.make_error.MakeError.{MakeError}
 use Rattle.profile.specs.Policy.{Policy}
 use Rattle.compare.specs.declared.behind_runc.stub.calls.Calls.{Calls}
@@ -60,7 +60,7 @@ module _ (native : Arch) (bundle filter rest : List ℕ) (answered : List Calls)
         → IsJudged native bundle filter rest answered leave aside whole judged
         → IsRecoveredBut native bundle filter leave (stub_calls whole answered) aside
     recovered_by aside whole (Ok (Certificate bytes)) certified is = of_certificate aside whole bytes is
-    recovered_by aside whole (Ok (Convicting found)) certified is = absurd certified
+    recovered_by aside whole (Ok (Refuting found)) certified is = absurd certified
     recovered_by aside whole (Err e) certified is = absurd certified
 
 -- what is told of calls is told by the family of the machine

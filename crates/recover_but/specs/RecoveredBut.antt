@@ -5,7 +5,7 @@ use Rattle.std.specs.List.{flat_map}
 use Rattle.machines.specs.declared.arch.Arch.{Arch}
 use Rattle.machines.specs.declared.arch.Family.{Family}
 use Rattle.machines.specs.Arch.{family_of}
-use Rattle.maker.specs.evidence.Conviction.{IsCertificate}
+use Rattle.maker.specs.evidence.Counterexample.{IsCertificate}
 use Rattle.maker.specs.declared.evidence.evidence.Evidence.{Evidence}
 use Rattle.maker.specs.declared.make_error.MakeError.{MakeError}
 use Rattle.compare.specs.declared.behind_runc.stub.calls.Calls.{Calls}

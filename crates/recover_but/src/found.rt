@@ -27,7 +27,7 @@ fn be_right(judged: &Result<Evidence, MakeError>) -> Result<(), Unsaid>
 {
     match judged {
         Ok(Evidence::Certificate(_)) => Ok(()),
-        Ok(Evidence::Convicting(found)) => Err(Unsaid::Unlike(*found)),
+        Ok(Evidence::Refuting(found)) => Err(Unsaid::Unlike(*found)),
         Err(MakeError::OutOfMemory) => Err(Unsaid::OutOfMemory),
         Err(make_error) => Err(Unsaid::Undecided(*make_error)),
     }

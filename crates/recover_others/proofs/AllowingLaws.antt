@@ -21,7 +21,7 @@ use Rattle.cert_check.specs.Right.{IsRight}
 use Rattle.maker.specs.Certified.{IsJudgement}
 use Rattle.maker.specs.Finding.{IsBundle}
 use Rattle.maker.specs.declared.evidence.evidence.Evidence.{Evidence}
-use Rattle.maker.specs.declared.evidence.evidence.Evidence.TheVariants.{Certificate, Convicting}
+use Rattle.maker.specs.declared.evidence.evidence.Evidence.TheVariants.{Certificate, Refuting}
 use Rattle.maker.specs.declared.make_error.MakeError.{MakeError}
 use Rattle.other_calls.specs.Guarded.{IsGuarded}
 use Rattle.recover_others.specs.RecoveredOthers.{IsCertified, IsRightAllowing, MeansAllowing, SaysAllowing}
@@ -71,7 +71,7 @@ module _ (policy : Policy) (program made : List Insn) (guarded : IsGuarded polic
 is_yes : (native : Arch) (bundle made : List ℕ) (judged : Result Evidence MakeError) → IsCertified judged → IsJudgement native bundle made judged
     → (policy : Policy) × IsBundle native bundle policy × IsRight policy (insns_of made)
 is_yes native bundle made (Ok (Certificate bytes)) certified is = (is.0, is.1, is.2.right)
-is_yes native bundle made (Ok (Convicting found)) certified is = absurd certified
+is_yes native bundle made (Ok (Refuting found)) certified is = absurd certified
 is_yes native bundle made (Err e) certified is = absurd certified
 
 pub means_allowing : (native : Arch) (bundle filter made : List ℕ) (policy : Policy) → IsBundle native bundle policy

@@ -8,7 +8,7 @@ use Rattle.bpf_insn.specs.Bytes.{insns_of, view_fault}
 use Rattle.bpf_insn.specs.Machine.{verdict_of}
 use Rattle.kernel_check.specs.Accepted.{IsAccepted}
 use Rattle.profile.specs.Policy.{IsNative, Policy, Says}
-use Rattle.maker.specs.evidence.Conviction.{IsCertificate}
+use Rattle.maker.specs.evidence.Counterexample.{IsCertificate}
 use Rattle.maker.specs.declared.evidence.evidence.Evidence.{Evidence}
 use Rattle.maker.specs.declared.make_error.MakeError.{MakeError}
 use Rattle.maker.specs.Finding.{IsBundle}

@@ -21,7 +21,7 @@ fn be_right(judged: &Result<Evidence, MakeError>) -> Result<(), Unallowed>
 {
     match judged {
         Ok(Evidence::Certificate(_)) => Ok(()),
-        Ok(Evidence::Convicting(found)) => Err(Unallowed::from(Unsaid::Unlike(*found))),
+        Ok(Evidence::Refuting(found)) => Err(Unallowed::from(Unsaid::Unlike(*found))),
         Err(make_error) => Err(Unallowed::from(Unsaid::from(*make_error))),
     }
 }

@@ -3,7 +3,7 @@ use crate::unallowed::Unallowed;
 use bpf_insn::Program;
 use bpf_interp::verdict;
 use kernel_check::{Accepted, accept};
-use maker::Conviction;
+use maker::Counterexample;
 use recover::{Shown, Unsaid};
 
 // A call that is of no listed machine.
@@ -14,8 +14,8 @@ fn other(program: &Accepted<'_>, shown: &Shown) -> Unallowed {
     })
 }
 
-// A call that convicts the filter that was judged, if it gets the same verdict from the filter itself. Else it is of no listed machine.
-fn unlike(program: &Accepted<'_>, found: &Conviction) -> Unallowed {
+// A call that refutes the filter that was judged, if it gets the same verdict from the filter itself. Else it is of no listed machine.
+fn unlike(program: &Accepted<'_>, found: &Counterexample) -> Unallowed {
     let given = verdict(program, &found.call);
     if given == found.given {
         return Unallowed::Unsaid(Unsaid::Unlike(*found));

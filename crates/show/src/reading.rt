@@ -337,7 +337,7 @@ fn read_whole(alloc: Global, document: &Document) -> Result<Told, AllocError>
 /// Tells what a bundle means. This is its machines, what is said of calls that no entry matches, a line for each entry, and the flags and
 /// the listener. Of a bundle that is refused, it is why, and the place of the fault. Behind it stands a line for each member that is not
 /// read.
-pub fn read_out(alloc: Global, document: &Document) -> Result<Told, AllocError>
+pub fn describe(alloc: Global, document: &Document) -> Result<Told, AllocError>
     ensures { IfOk result (spec.IsReadOut document.now.native document.now.bytes) }
 {
     let native = document.native();

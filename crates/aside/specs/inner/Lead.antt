@@ -4,9 +4,9 @@ use Rattle.call_record.specs.Record.{words}
 use Rattle.machines.specs.declared.arch.Arch.{Arch}
 use Rattle.machines.specs.declared.arch.Family.{Family}
 use Rattle.certify.specs.declared.error.CertifyError.TheVariants as maker
-use Rattle.maker.specs.declared.evidence.evidence.Conviction.{Conviction}
+use Rattle.maker.specs.declared.evidence.evidence.Counterexample.{Counterexample}
 use Rattle.maker.specs.declared.evidence.evidence.Evidence.{Evidence}
-use Rattle.maker.specs.declared.evidence.evidence.Evidence.TheVariants.{Convicting}
+use Rattle.maker.specs.declared.evidence.evidence.Evidence.TheVariants.{Refuting}
 use Rattle.maker.specs.declared.make_error.MakeError.{MakeError}
 use Rattle.maker.specs.declared.make_error.MakeError.TheVariants.{Certify, OutOfMemory}
 use Rattle.maker.specs.Certified.{AreJudged}
@@ -29,6 +29,6 @@ IsUndecided other = ⊥
 -- what was judged is a record of one of these calls, which may be left aside
 pub record Leads (family : Family) (leave : Leave) (judged : Result Evidence MakeError) (calls : Calls) : Type 0 where
   pub may : MayBeAside family leave calls
-  pub found : Conviction
-  pub is : judged ≡ Ok (Convicting found)
+  pub found : Counterexample
+  pub is : judged ≡ Ok (Refuting found)
   pub is_of : IsOf (words found.call) calls

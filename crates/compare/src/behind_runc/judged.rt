@@ -2,8 +2,8 @@
 ghost use Rattle.std.specs.Prelude.{◌≡◌, IfSome, ℕ, List, Ok};
 ghost use Rattle.call_record.specs.Record.{words};
 ghost use Rattle.machines.specs.declared.arch.Arch.{Arch as TheArch};
-ghost use Rattle.maker.specs.declared.evidence.evidence.Conviction.{Conviction as TheConviction};
-ghost use Rattle.maker.specs.declared.evidence.evidence.Evidence.TheVariants.{Convicting};
+ghost use Rattle.maker.specs.declared.evidence.evidence.Counterexample.{Counterexample as TheCounterexample};
+ghost use Rattle.maker.specs.declared.evidence.evidence.Evidence.TheVariants.{Refuting};
 ghost use Rattle.maker.specs.Certified.{IsJudgement};
 ghost use Rattle.maker.specs.Finding.{IsBundle};
 ghost use Rattle.maker.specs.Told.{Tells};
@@ -15,7 +15,7 @@ use crate::behind_runc::behind::Behind;
 use crate::behind_runc::spared::spares;
 use crate::behind_runc::stub::is_answered;
 use call_record::{Word, words_are_a_record};
-use maker::{Conviction, Evidence, MakeError, judge_filter, refuse, write_judged};
+use maker::{Counterexample, Evidence, MakeError, judge_filter, refuse, write_judged};
 use profile::Profile;
 use profile_json::Document;
 use std::alloc::Global;
@@ -33,10 +33,10 @@ pub struct Judged {
 
 // The counterexample to the whole filter, of a record that is one to the rest. It is the same if the stub does not answer the record. Else
 // it is that the stub answers the record, if the bundle says another verdict.
-fn of_whole(behind: &Behind<'_>, found: &Conviction) -> Option<Conviction>
+fn of_whole(behind: &Behind<'_>, found: &Counterexample) -> Option<Counterexample>
     ensures { (native : TheArch) (bundle filter : List ℕ) → IsBehind filter behind.now.rest.now behind.now.answered.items
-        → IsJudgement native bundle behind.now.rest.now (Ok (Convicting found.now))
-        → IfSome result (λ whole. IsJudgement native bundle filter (Ok (Convicting whole))) }
+        → IsJudgement native bundle behind.now.rest.now (Ok (Refuting found.now))
+        → IfSome result (λ whole. IsJudgement native bundle filter (Ok (Refuting whole))) }
 {
     words_are_a_record(&found.call);
     if !is_answered(&behind.answered, &found.call) {
@@ -45,7 +45,7 @@ fn of_whole(behind: &Behind<'_>, found: &Conviction) -> Option<Conviction>
     if found.said == ENOSYS {
         return None;
     }
-    Some(Conviction {
+    Some(Counterexample {
         call: found.call,
         given: ENOSYS,
         said: found.said,
@@ -63,24 +63,24 @@ fn judge_whole(alloc: Global, profile: &Profile, filter: &[u8]) -> Judged
     }
 }
 
-// What is judged where a record was found that convicts the rest.
+// What is judged where a record was found that refutes the rest.
 fn judge_found(
     alloc: Global,
     profile: &Profile,
     filter: &[u8],
     behind: &Behind<'_>,
-    found: &Conviction,
+    found: &Counterexample,
 ) -> Judged
     requires behind { IsBehind filter.now behind.now.rest.now behind.now.answered.items }
     requires found { (native : TheArch) (bundle : List ℕ) → IsBundle native bundle profile.now
-        → IsJudgement native bundle behind.now.rest.now (Ok (Convicting found.now)) }
+        → IsJudgement native bundle behind.now.rest.now (Ok (Refuting found.now)) }
     ensures { (native : TheArch) (bundle : List ℕ) → IsBundle native bundle profile.now
         → IsJudgedBehind native bundle filter.now behind.now.rest.now behind.now.answered.items result.whole result.evidence }
 {
     match of_whole(behind, found) {
         Some(whole) => Judged {
             whole: false,
-            evidence: Ok(Evidence::Convicting(whole)),
+            evidence: Ok(Evidence::Refuting(whole)),
         },
         None => judge_whole(alloc, profile, filter),
     }
@@ -94,7 +94,7 @@ fn judge_rest(alloc: Global, profile: &Profile, filter: &[u8], behind: &Behind<'
         → IsJudgedBehind native bundle filter.now behind.now.rest.now behind.now.answered.items result.whole result.evidence }
 {
     match judge_filter(alloc, profile, behind.rest) {
-        Ok(Evidence::Convicting(found)) => judge_found(alloc, profile, filter, behind, &found),
+        Ok(Evidence::Refuting(found)) => judge_found(alloc, profile, filter, behind, &found),
         Ok(Evidence::Certificate(certificate)) => Judged {
             whole: false,
             evidence: Ok(Evidence::Certificate(certificate)),
@@ -149,7 +149,7 @@ pub fn write_behind<S: Sink>(
         → IsJudgedBehind native bundle filter rest answered judged.now.whole judged.now.evidence
         → WritesBehind S.held S.failures sink.old sink.new native bundle filter rest answered judged.now.whole result }
     // The record that is told is the one that was found.
-    ensures told { (found : TheConviction) → judged.now.evidence ≡ Ok (Convicting found)
+    ensures told { (found : TheCounterexample) → judged.now.evidence ≡ Ok (Refuting found)
         → Tells S.held S.failures sink.old sink.new (words found.call) found.given found.said result }
 {
     match &judged.evidence {

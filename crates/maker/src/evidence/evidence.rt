@@ -6,8 +6,8 @@ ghost use Rattle.cert_check.specs.Right.{IsRight};
 ghost use Rattle.cert_check.specs.Valid.{IsValidCertificate};
 ghost use Rattle.certify.specs.Error.{IsOfSize};
 ghost use Rattle.certify.specs.Fault.{IsWrongOn, TellsWrong};
-ghost use Rattle.maker.specs.evidence.Conviction.{CertifiesShape, FindsConviction, IsConviction, IsEvidence, JudgesSteady};
-ghost use Rattle.maker.specs.evidence.Conviction.{JudgesTelling, ShapeLacksMemory, ShowsRight};
+ghost use Rattle.maker.specs.evidence.Counterexample.{CertifiesShape, FindsCounterexample, IsCounterexample, IsEvidence, JudgesSteady};
+ghost use Rattle.maker.specs.evidence.Counterexample.{JudgesTelling, ShapeLacksMemory, ShowsRight};
 
 use crate::evidence::hand::Hand;
 use crate::evidence::maker::are_plain;
@@ -24,7 +24,7 @@ use std::alloc::{AllocError, Global};
 
 /// A record, with the verdict that a filter gives it and the one that a profile says of it.
 #[derive(Clone, Copy, Debug)]
-pub struct Conviction {
+pub struct Counterexample {
     pub call: Record,
     pub given: Word,
     pub said: Word,
@@ -36,12 +36,12 @@ pub enum Evidence {
     /// A certificate that the filter gives each record the verdict that the profile says.
     Certificate(Vec<u8>),
     /// A record on which the two differ.
-    Convicting(Conviction),
+    Refuting(Counterexample),
 }
 
 // The verdicts on a record, where they are unlike.
-fn unlike(profile: &Profile, program: &Accepted<'_>, call: Record) -> Option<Conviction>
-    ensures found { IfSome result (IsConviction profile.now (accepted_insns program.now)) }
+fn unlike(profile: &Profile, program: &Accepted<'_>, call: Record) -> Option<Counterexample>
+    ensures found { IfSome result (IsCounterexample profile.now (accepted_insns program.now)) }
     ensures none { result ≡ None → IsWrongOn profile.now (accepted_insns program.now) (words call) → ⊥ }
 {
     let given = verdict(program, &call);
@@ -49,7 +49,7 @@ fn unlike(profile: &Profile, program: &Accepted<'_>, call: Record) -> Option<Con
     if given.0 == said.0 {
         return None;
     }
-    Some(Conviction { call, given, said })
+    Some(Counterexample { call, given, said })
 }
 
 // The verdicts on a record of a search, if it found one and they are unlike.
@@ -57,8 +57,8 @@ fn on_a_search(
     profile: &Profile,
     program: &Accepted<'_>,
     found: Result<Option<Record>, AllocError>,
-) -> Result<Option<Conviction>, CertifyError>
-    ensures found { FindsConviction profile.now (accepted_insns program.now) result }
+) -> Result<Option<Counterexample>, CertifyError>
+    ensures found { FindsCounterexample profile.now (accepted_insns program.now) result }
     ensures memory { IfErr result (λ e. e ≡ CertifyError.OutOfMemory) }
 {
     match found {
@@ -82,16 +82,16 @@ fn on_record(
 {
     let beside = find_beside_rules(alloc, profile, *program);
     match on_a_search(profile, program, beside) {
-        Ok(Some(found)) => Ok(Evidence::Convicting(found)),
+        Ok(Some(found)) => Ok(Evidence::Refuting(found)),
         Ok(None) => match unlike(profile, program, call) {
-            Some(found) => Ok(Evidence::Convicting(found)),
+            Some(found) => Ok(Evidence::Refuting(found)),
             None => Err(CertifyError::Undecided(pc)),
         },
         Err(error) => Err(error),
     }
 }
 
-// The record that convicts a filter, if one is searched for and found, or else the reason why there is no certificate.
+// The record that refutes a filter, if one is searched for and found, or else the reason why there is no certificate.
 fn searched(
     alloc: Global,
     profile: &Profile,
@@ -103,7 +103,7 @@ fn searched(
 {
     let record = find_record(alloc, profile, *program);
     match on_a_search(profile, program, record) {
-        Ok(Some(found)) => Ok(Evidence::Convicting(found)),
+        Ok(Some(found)) => Ok(Evidence::Refuting(found)),
         Ok(None) => Err(reason),
         Err(error) => Err(error),
     }

@@ -2,4 +2,4 @@ use Rattle.std.proofs.Common.{refl}
 use Rattle.aside.proofs.found.of_found.Goals as goal
 
 pub returns : goal.returns
-returns c = c.convictions_behind.ensures.found c.args.found.now refl
+returns c = c.counterexamples_behind.ensures.found c.args.found.now refl

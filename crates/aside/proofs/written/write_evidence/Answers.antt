@@ -18,13 +18,13 @@ returns-in-Certificate-clause-but g c = λ native bundle filter answered is judg
     (subst (λ (a : List Calls). IsWritten g.S.Sink.held g.S.Sink.failures c.args.sink.now c.write_yes.new.sink (but_text c.args.family a) c.write_yes.result
     ⊎ LacksMemory c.args.sink.now c.write_yes.new.sink c.write_yes.result) c.deref.ensures.value c.write_yes.ensures)
 
-pub returns-in-Convicting-clause-but : goal.returns-in-Convicting-clause-but
-returns-in-Convicting-clause-but g c = λ native bundle filter answered is judged.
+pub returns-in-Refuting-clause-but : goal.returns-in-Refuting-clause-but
+returns-in-Refuting-clause-but g c = λ native bundle filter answered is judged.
     let but = c.args.but.now in
     record_told g.S.Sink.held g.S.Sink.failures c.args.sink.now c.write_judged.new.sink native c.write_judged.result bundle filter answered
-    but.aside.items c.in-Convicting.field-0
-    (subst (λ (e : Evidence). IsJudgedBut native bundle filter answered but.aside.items (judged_as e)) c.in-Convicting.is judged)
-    (c.write_judged.ensures.told c.in-Convicting.field-0 (c.requires ∙ ap judged_as c.in-Convicting.is))
+    but.aside.items c.in-Refuting.field-0
+    (subst (λ (e : Evidence). IsJudgedBut native bundle filter answered but.aside.items (judged_as e)) c.in-Refuting.is judged)
+    (c.write_judged.ensures.told c.in-Refuting.field-0 (c.requires ∙ ap judged_as c.in-Refuting.is))
 
-pub returns-in-Convicting-clause-told : goal.returns-in-Convicting-clause-told
-returns-in-Convicting-clause-told g c = λ found e. c.write_judged.ensures.told found (c.requires ∙ ap judged_as e)
+pub returns-in-Refuting-clause-told : goal.returns-in-Refuting-clause-told
+returns-in-Refuting-clause-told g c = λ found e. c.write_judged.ensures.told found (c.requires ∙ ap judged_as e)

@@ -1,7 +1,7 @@
 use Rattle.std.proofs.Common.{◌≡◌, ◌⊎◌, List, [], inr, refl, subst, sym}
 use Rattle.std.specs.Prelude.{Ok}
-use Rattle.maker.specs.declared.evidence.evidence.Conviction.{Conviction}
-use Rattle.maker.specs.declared.evidence.evidence.Evidence.TheVariants.{Convicting}
+use Rattle.maker.specs.declared.evidence.evidence.Counterexample.{Counterexample}
+use Rattle.maker.specs.declared.evidence.evidence.Evidence.TheVariants.{Refuting}
 use Rattle.aside.specs.Judged.{stub_calls}
 use Rattle.aside.specs.Told.{AreFoundBut}
 use Rattle.cli.proofs.ButLaws.{found_only}
@@ -23,37 +23,37 @@ pub returns-in-Err-write_found-clause-written : goal.returns-in-Err-write_found-
 returns-in-Err-write_found-clause-written g c =
     let but = c.in-Ok-judge_but.but in
     let answered = c.in-Ok.behind.answered.items in
-    let Found : List Conviction → Type 0 =
-    λ all. (all ≡ []) ⊎ ((found : Conviction)
+    let Found : List Counterexample → Type 0 =
+    λ all. (all ≡ []) ⊎ ((found : Counterexample)
     × AreFoundBut c.args.document.now.native c.args.document.now.bytes c.args.filter.now (stub_calls but.judged.whole answered) but.aside.items found all) in
     (rw c.native-native.ensures at c.in-Err-write_found.ensures) c.args.document.now.bytes c.args.filter.now c.in-Ok.behind.rest.now answered c.args.leave c.in-Ok.ensures
     c.in-Ok-judge_but.ensures
     (subst Found (sym c.deref.ensures.value)
     (found_only c.args.document.now.native c.args.document.now.bytes c.args.filter.now (stub_calls but.judged.whole answered) but.aside.items
-    (λ found. but.judged.evidence ≡ Ok (Convicting found)) c.in-Ok-all_of.all.items c.in-Ok-all_of.ensures))
+    (λ found. but.judged.evidence ≡ Ok (Refuting found)) c.in-Ok-all_of.all.items c.in-Ok-all_of.ensures))
 
 pub returns-then-is_quiet-clause-written : goal.returns-then-is_quiet-clause-written
 returns-then-is_quiet-clause-written g c =
     let but = c.in-Ok-judge_but.but in
     let answered = c.in-Ok.behind.answered.items in
-    let Found : List Conviction → Type 0 =
-    λ all. (all ≡ []) ⊎ ((found : Conviction)
+    let Found : List Counterexample → Type 0 =
+    λ all. (all ≡ []) ⊎ ((found : Counterexample)
     × AreFoundBut c.args.document.now.native c.args.document.now.bytes c.args.filter.now (stub_calls but.judged.whole answered) but.aside.items found all) in
     (rw c.native-native.ensures at c.in-Ok-write_found.ensures) c.args.document.now.bytes c.args.filter.now c.in-Ok.behind.rest.now answered c.args.leave c.in-Ok.ensures
     c.in-Ok-judge_but.ensures
     (subst Found (sym c.deref.ensures.value)
     (found_only c.args.document.now.native c.args.document.now.bytes c.args.filter.now (stub_calls but.judged.whole answered) but.aside.items
-    (λ found. but.judged.evidence ≡ Ok (Convicting found)) c.in-Ok-all_of.all.items c.in-Ok-all_of.ensures))
+    (λ found. but.judged.evidence ≡ Ok (Refuting found)) c.in-Ok-all_of.all.items c.in-Ok-all_of.ensures))
 
 pub returns-clause-written : goal.returns-clause-written
 returns-clause-written g c =
     let but = c.in-Ok-judge_but.but in
     let answered = c.in-Ok.behind.answered.items in
-    let Found : List Conviction → Type 0 =
-    λ all. (all ≡ []) ⊎ ((found : Conviction)
+    let Found : List Counterexample → Type 0 =
+    λ all. (all ≡ []) ⊎ ((found : Counterexample)
     × AreFoundBut c.args.document.now.native c.args.document.now.bytes c.args.filter.now (stub_calls but.judged.whole answered) but.aside.items found all) in
     (rw c.native-native.ensures at c.in-Ok-write_found.ensures) c.args.document.now.bytes c.args.filter.now c.in-Ok.behind.rest.now answered c.args.leave c.in-Ok.ensures
     c.in-Ok-judge_but.ensures
     (subst Found (sym c.deref.ensures.value)
     (found_only c.args.document.now.native c.args.document.now.bytes c.args.filter.now (stub_calls but.judged.whole answered) but.aside.items
-    (λ found. but.judged.evidence ≡ Ok (Convicting found)) c.in-Ok-all_of.all.items c.in-Ok-all_of.ensures))
+    (λ found. but.judged.evidence ≡ Ok (Refuting found)) c.in-Ok-all_of.all.items c.in-Ok-all_of.ensures))

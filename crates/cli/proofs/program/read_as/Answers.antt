@@ -18,4 +18,4 @@ returns g c =
     subst (λ b. AnswersRead g.O.Sink.held g.O.Sink.failures (g.F.Files.folder c.args.files.now) c.args.out.now c.tell-2.new.out b (read c.args.parts) c.tell-2.result)
     c.if-eq.ensures
     (answers_told g.O.Sink.held g.O.Sink.failures (g.F.Files.folder c.args.files.now) (c.args.parts.two.now ∷ []) (of_one (OfBundle c.args.parts.native (TellsRead c.args.parts.native)))
-    c.args.out.now c.tell-2.new.out c.tell-2.result c.read_out.result c.read_out.ensures c.tell-2.ensures)
+    c.args.out.now c.tell-2.new.out c.tell-2.result c.describe.result c.describe.ensures c.tell-2.ensures)

@@ -9,10 +9,10 @@ returns-in-Certificate-clause-recovered c = λ native filter is.
     recovered_by native (string_bytes c.args.bundle) filter c.in-Certificate._certificate.items
     (subst (IsEvidenceFor native (string_bytes c.args.bundle) filter) c.in-Certificate.is is)
 
-pub returns-in-Convicting-clause-reason : goal.returns-in-Convicting-clause-reason
-returns-in-Convicting-clause-reason c = λ native filter is.
-    (string_bytes c.args.bundle, subst (IsEvidenceFor native (string_bytes c.args.bundle) filter) c.in-Convicting.is is)
+pub returns-in-Refuting-clause-reason : goal.returns-in-Refuting-clause-reason
+returns-in-Refuting-clause-reason c = λ native filter is.
+    (string_bytes c.args.bundle, subst (IsEvidenceFor native (string_bytes c.args.bundle) filter) c.in-Refuting.is is)
 
-pub returns-in-Convicting-clause-draft : goal.returns-in-Convicting-clause-draft
-returns-in-Convicting-clause-draft c = λ native filter is.
-    subst (IsEvidenceFor native (string_bytes c.args.bundle) filter) c.in-Convicting.is is
+pub returns-in-Refuting-clause-draft : goal.returns-in-Refuting-clause-draft
+returns-in-Refuting-clause-draft c = λ native filter is.
+    subst (IsEvidenceFor native (string_bytes c.args.bundle) filter) c.in-Refuting.is is

@@ -1,10 +1,10 @@
 use Rattle.std.proofs.Common.{List, subst, sym}
 use Rattle.std.proofs.lemmas.List.Elements.{All-cons}
-use Rattle.maker.specs.declared.evidence.evidence.Conviction.{Conviction}
+use Rattle.maker.specs.declared.evidence.evidence.Counterexample.{Counterexample}
 use Rattle.std.specs.List.{All}
 use Rattle.compare.specs.declared.behind_runc.stub.calls.Calls.{Calls}
 use Rattle.compare.specs.Behind.{IsNotAnswered}
-use Rattle.compare.specs.Convictions.{AllConvict, Convicts}
+use Rattle.compare.specs.Counterexamples.{AllRefute, Refutes}
 use Rattle.compare.proofs.behind_runc.all.of_found.Goals as goal
 
 pub returns : goal.returns
@@ -16,10 +16,10 @@ returns c =
       are = record {
         further = c.in_ok-left.left.items;
         first = c.in_ok-put_first.ensures;
-        convict = subst (λ (all : List Conviction). AllConvict native bundle filter all) (sym c.in_ok-put_first.ensures)
-            (All-cons (Convicts native bundle filter) c.args.found.now c.in_ok-left.left.items c.requires
-            (c.in_ok-left.ensures.convict native bundle filter
-            (subst (λ (all : List Conviction). AllConvict native bundle filter all) (sym c.deref-2.ensures.value) c.in_ok-all.ensures.convict)));
+        refute = subst (λ (all : List Counterexample). AllRefute native bundle filter all) (sym c.in_ok-put_first.ensures)
+            (All-cons (Refutes native bundle filter) c.args.found.now c.in_ok-left.left.items c.requires
+            (c.in_ok-left.ensures.refute native bundle filter
+            (subst (λ (all : List Counterexample). AllRefute native bundle filter all) (sym c.deref-2.ensures.value) c.in_ok-all.ensures.refute)));
       };
       passed = λ _. subst (λ (answered : List Calls). All (IsNotAnswered answered) c.in_ok-left.left.items) c.deref.ensures.value
           c.in_ok-left.ensures.left;

@@ -5,8 +5,8 @@ use Rattle.compare.proofs.behind_runc.judged.judge_rest.Goals as goal
 
 pub judge_found-requires-clause-found : goal.judge_found-requires-clause-found
 judge_found-requires-clause-found c = λ native bundle means.
-    subst (λ (e : Evidence). IsEvidenceFor native bundle c.args.behind.now.rest.now e) c.in-Ok-Convicting.field-0-is
-    (c.in-Ok-Convicting.ensures.found native bundle means)
+    subst (λ (e : Evidence). IsEvidenceFor native bundle c.args.behind.now.rest.now e) c.in-Ok-Refuting.field-0-is
+    (c.in-Ok-Refuting.ensures.found native bundle means)
 
 pub returns-in-Err : goal.returns-in-Err
 returns-in-Err c = λ native bundle means.
