@@ -9,6 +9,7 @@ use crate::stops::Stop;
 use byte_order::written_as;
 use machines::Arch;
 use maker::export_bundle;
+use profile_json::Document;
 use std::alloc::{AllocError, Global};
 use texts::{Sink, ToWrite, write_all};
 use wording::{End, Told};
@@ -33,19 +34,18 @@ fn file_of(
     }
 }
 
-/// What is written of a bundle for a machine.
+/// What is written of a bundle for its machine.
 pub(crate) fn exported(
     alloc: Global,
-    native: Arch,
-    bundle: &[u8],
+    document: &Document,
     form: Form,
 ) -> Result<Told, AllocError>
-    ensures { IfOk result (TellsExported native form bundle.now) }
+    ensures { IfOk result (TellsExported document.now.native form document.now.bytes) }
 {
     let mut kept = ToWrite::new(Vec::new(alloc));
-    match export_bundle(alloc, native, bundle, form, &mut kept) {
+    match export_bundle(alloc, document, form, &mut kept) {
         Ok(done) => {
-            let bytes = file_of(alloc, native, form, done, &kept.writer)?;
+            let bytes = file_of(alloc, document.native(), form, done, &kept.writer)?;
             Ok(Told {
                 bytes,
                 end: End::of(done),
@@ -58,14 +58,13 @@ pub(crate) fn exported(
 // Writes it.
 fn export_turned<'a, O: Sink>(
     alloc: Global,
-    native: Arch,
-    bundle: &[u8],
+    document: &Document,
     form: Form,
     out: &mut O,
 ) -> Result<bool, Stop<'a>>
-    ensures { ExportsTurned O.held O.failures out.old out.new native bundle.now form result }
+    ensures { ExportsTurned O.held O.failures out.old out.new document.now.native document.now.bytes form result }
 {
-    match exported(alloc, native, bundle, form) {
+    match exported(alloc, document, form) {
         Ok(told) => match write_all(&told.bytes, out) {
             Ok(()) => Ok(told.end.is_done()),
             Err(fault) => Err(Stop::from(fault)),
@@ -77,15 +76,15 @@ fn export_turned<'a, O: Sink>(
 /// Writes the filter of a bundle in a form, once it is checked, or why it has none.
 pub(crate) fn export_for<'a, O: Sink>(
     alloc: Global,
-    native: Arch,
-    bundle: &[u8],
+    document: &Document,
     form: Form,
     out: &mut O,
 ) -> Result<bool, Stop<'a>>
-    ensures { ExportsFor O.held O.failures out.old out.new (is_big_endian native) native bundle.now form result }
+    ensures { ExportsFor O.held O.failures out.old out.new
+        (is_big_endian document.now.native) document.now.native document.now.bytes form result }
 {
-    if native.is_big_endian() {
-        return export_turned(alloc, native, bundle, form, out);
+    if document.native().is_big_endian() {
+        return export_turned(alloc, document, form, out);
     }
-    Ok(export_bundle(alloc, native, bundle, form, out)?)
+    Ok(export_bundle(alloc, document, form, out)?)
 }

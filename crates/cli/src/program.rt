@@ -18,7 +18,7 @@ use crate::ending::status_on;
 use crate::explaining::explain;
 use crate::exporting::export_for;
 use crate::files::{
-    Files, read_bundle, read_bundles, read_certificate, read_filter, read_little_filter,
+    Files, read_bundles, read_certificate, read_document, read_filter, read_little_filter,
     read_record,
 };
 use crate::flattening::flattened;
@@ -67,10 +67,10 @@ fn check<'a, F: Files, O: Sink>(
 ) -> Result<bool, Stop<'a>>
     ensures { AnswersCheck O.held O.failures (F.folder files.old) out.old out.new native bundle.entry.now filter.entry.now certificate.entry.now result }
 {
-    let bundle = read_bundle(alloc, native, files, bundle)?;
+    let document = read_document(alloc, native, files, bundle)?;
     let filter = read_filter(alloc, native, files, filter)?;
     let certificate = read_certificate(alloc, files, certificate)?;
-    Ok(check_line(alloc, native, &bundle, &filter, &certificate, out)?)
+    Ok(check_line(alloc, &document, &filter, &certificate, out)?)
 }
 
 // Writes the filter of a bundle in a form, once it is checked, or why it has none.
@@ -84,8 +84,8 @@ fn export<'a, F: Files, O: Sink>(
 ) -> Result<bool, Stop<'a>>
     ensures { AnswersExport O.held O.failures (F.folder files.old) out.old out.new native bundle.entry.now form result }
 {
-    let bundle = read_bundle(alloc, native, files, bundle)?;
-    export_for(alloc, native, &bundle, form, out)
+    let document = read_document(alloc, native, files, bundle)?;
+    export_for(alloc, &document, form, out)
 }
 
 // Answers a script with the filters of bundles, once they are checked, or says why the first without one has none.

@@ -23,15 +23,15 @@ use texts::Sink;
 use wording::{End, Told};
 
 // The graph of the filter that is exported.
-fn graph_of(alloc: Global, native: Arch, bundle: &[u8]) -> Result<Told, AllocError>
-    ensures { IfOk result (spec.DrawsExport native bundle.now) }
+fn graph_of(alloc: Global, document: &Document) -> Result<Told, AllocError>
+    ensures { IfOk result (spec.DrawsExport document.now.native document.now.bytes) }
 {
-    let file = exported(alloc, native, bundle, Form::Raw)?;
+    let file = exported(alloc, document, Form::Raw)?;
     if !file.end.is_done() {
         return Ok(file);
     }
-    let filter = read_as(alloc, native, &file.bytes)?;
-    show::drawn(alloc, native, &filter)
+    let filter = read_as(alloc, document.native(), &file.bytes)?;
+    show::drawn(alloc, document.native(), &filter)
 }
 
 // What a page shows of a bundle.
@@ -55,7 +55,7 @@ fn page_of(
 ) -> Result<Told, AllocError>
     ensures { IfOk result (spec.IsPaged document.now.native name.now document.now.bytes review.now) }
 {
-    let graph = graph_of(alloc, document.native(), document.bytes())?;
+    let graph = graph_of(alloc, document)?;
     let bytes = page_of_one(alloc, &side_of(name, review, &graph))?;
     Ok(Told {
         bytes,
@@ -89,9 +89,8 @@ fn page_of_both(alloc: Global, old: &Reviewed<'_>, new: &Reviewed<'_>) -> Result
         old.now.document.now.bytes new.now.document.now.bytes old.now.review.now new.now.review.now) }
 {
     let compared = compared_beside(alloc, old.document, new.document, false)?;
-    let native = old.document.native();
-    let old_graph = graph_of(alloc, native, old.document.bytes())?;
-    let new_graph = graph_of(alloc, native, new.document.bytes())?;
+    let old_graph = graph_of(alloc, old.document)?;
+    let new_graph = graph_of(alloc, new.document)?;
     let old_side = side_of(old.name, old.review, &old_graph);
     let new_side = side_of(new.name, new.review, &new_graph);
     let bytes = page_of_two(alloc, &old_side, &new_side, &compared.bytes)?;

@@ -8,14 +8,16 @@ ghost use Rattle.cli.specs.Running.{AnswersScript, FirstMakeError, HasAnswered, 
 use crate::stops::Stop;
 use machines::Arch;
 use maker::{CheckedBundle, MakeError, refuse};
+use profile_json::Document;
 use session::{Bundle, Bundles, run_script};
 use std::alloc::{AllocError, Global};
 use texts::{Sink, Source};
 
-// A bundle's name in a script, and what is made of its text.
+// A bundle's name in a script, its text, and what is made of it.
 #[derive(Drop)]
 struct Named {
     name: Option<String>,
+    document: Option<Document>,
     checked_bundle: CheckedBundle,
 }
 
@@ -27,10 +29,26 @@ fn rooms_of(alloc: Global, count: usize) -> Result<Vec<Named>, AllocError>
     for _ in 0..count {
         rooms.push(Named {
             name: None,
+            document: None,
             checked_bundle: CheckedBundle::new(),
         })?;
     }
     Ok(rooms)
+}
+
+// A text, which is read for a native machine.
+fn read_text<'a>(
+    alloc: Global,
+    native: Arch,
+    text: &[u8],
+    place: &'a mut Option<Document>,
+) -> Result<&'a Document, AllocError>
+    ensures native { IfOk result (λ document. document.now.native ≡ native) }
+    ensures bytes { IfOk result (λ document. document.now.bytes ≡ text.now) }
+{
+    let mut bytes = Vec::new(alloc);
+    bytes.extend_from_slice(text)?;
+    Ok(place.insert(Document::new(alloc, bytes, native)))
 }
 
 // The bundle of a text at a place, which is read for a native machine.
@@ -50,11 +68,13 @@ fn bundle_of<'a>(
     };
     let Named {
         name,
+        document,
         checked_bundle,
     } = room;
     let name: &'a String = name.insert(own);
     let name = name.as_str();
-    match checked_bundle.fill(alloc, native, text) {
+    let document = read_text(alloc, native, text, document)?;
+    match checked_bundle.fill(alloc, document) {
         Ok(checked) => Ok(Bundle { name, checked }),
         Err(make_error) => Err(make_error),
     }

@@ -9,10 +9,10 @@ ghost use Rattle.filter_c.specs.Answer.{IsCertifiedAs, IsExportOf, IsFilterOf, I
 
 use crate::added::machine_with;
 use crate::answers::written;
+use crate::of_texts::{certify_text, check_text, export_text};
 use crate::status::{DONE, NO_MEMORY, NO_NATIVE, NO_ROOM, REFUSED};
 use export::Form;
 use machines::Arch;
-use maker::{certify_bundle, check_line, export_bundle};
 use std::alloc::Global;
 use texts::ToWrite;
 
@@ -26,7 +26,7 @@ fn filter_for(alloc: Global, native: Arch, bundle: &[u8], out: &mut [u8], count:
     ensures statuses { result ≤ 3 }
 {
     let mut sink = ToWrite::new(Vec::new(alloc));
-    let Ok(is_made) = export_bundle(alloc, native, bundle, Form::Raw, &mut sink) else {
+    let Ok(is_made) = export_text(alloc, native, bundle, Form::Raw, &mut sink) else {
         return NO_MEMORY;
     };
     if !written(&sink.writer, out, count) {
@@ -54,7 +54,7 @@ fn found(
     ensures statuses { result ≤ 3 }
 {
     let mut sink = ToWrite::new(Vec::new(alloc));
-    let Ok(is_yes) = check_line(alloc, native, bundle, filter, cert, &mut sink) else {
+    let Ok(is_yes) = check_text(alloc, native, bundle, filter, cert, &mut sink) else {
         return NO_MEMORY;
     };
     if is_yes {
@@ -84,7 +84,7 @@ fn certified(
     ensures statuses { result ≤ 3 }
 {
     let mut sink = ToWrite::new(Vec::new(alloc));
-    let Ok(is_made) = certify_bundle(alloc, native, bundle, filter, &mut sink) else {
+    let Ok(is_made) = certify_text(alloc, native, bundle, filter, &mut sink) else {
         return NO_MEMORY;
     };
     if !written(&sink.writer, out, count) {

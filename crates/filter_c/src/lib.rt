@@ -7,6 +7,7 @@ mod added;
 mod answers;
 mod bundles;
 mod calls;
+mod of_texts;
 mod rules;
 mod status;
 mod verdicts;

@@ -45,7 +45,7 @@ fn put_filter(alloc: Global, profile: Profile, out: &mut [u8], told: &mut Told) 
     ensures statuses { (result ≡ 0) ⊎ ((result ≡ 2) ⊎ ((result ≡ 3) ⊎ (result ≡ 11))) }
 {
     let mut checked_bundle = CheckedBundle::new();
-    match checked_bundle.fill_for(alloc, profile) {
+    match checked_bundle.fill_for(alloc, &profile) {
         Ok(checked) => put_checked(&checked, out, told),
         Err(MakeError::OutOfMemory) => NO_MEMORY,
         Err(_) => NO_FILTER,

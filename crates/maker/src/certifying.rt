@@ -19,9 +19,8 @@ use bpf_insn::Program;
 use call_record::{Word, words_are_a_record};
 use cert_check::CheckError;
 use kernel_check::{Accepted, accept};
-use machines::Arch;
 use profile::Profile;
-use profile_json::{Document, read_bundle};
+use profile_json::Document;
 use std::alloc::{AllocError, Global};
 use texts::{Sink, WriteFault, write_all};
 
@@ -97,22 +96,6 @@ pub fn judge_filter(alloc: Global, profile: &Profile, filter: &[u8]) -> Result<E
     }
 }
 
-// The evidence on a filter, beside the text of a bundle.
-fn judge_text(
-    alloc: Global,
-    native: Arch,
-    bundle: &[u8],
-    filter: &[u8],
-) -> Result<Evidence, MakeError>
-    ensures found { IsJudgement native bundle.now filter.now result }
-    ensures own { (policy : Policy) → IsOwnFilter native bundle.now filter.now policy → IsOwnJudgement result }
-{
-    match read_bundle(alloc, bundle, native) {
-        Ok(bundle) => judge_filter(alloc, &bundle.profile, filter),
-        Err(error) => Err(MakeError::from(error)),
-    }
-}
-
 /// The evidence on a filter, beside a bundle. It is a certificate that the filter answers what the bundle says, to which the checker says
 /// yes. Or it is a call record on which the filter gives another verdict. Or else the reason is returned why there is neither. For a filter
 /// that compares steadily this is only that the format has no room.
@@ -183,23 +166,21 @@ pub fn write_judged<S: Sink>(
     }
 }
 
-/// Writes what is judged of a bundle, which is read for a native machine, and a filter: a certificate to which the checker says
-/// yes. If there is none, the function returns false. It writes the line of a call record on which the filter gives another
-/// verdict than the bundle says. If none is found, it writes the line that says why there is neither. For a filter that
-/// compares steadily this is only that the format has no room.
+/// Writes what is judged of a bundle and a filter: a certificate to which the checker says yes. If there is none, the function returns
+/// false. It writes the line of a call record on which the filter gives another verdict than the bundle says. If none is found, it
+/// writes the line that says why there is neither. For a filter that compares steadily this is only that the format has no room.
 pub fn certify_bundle<S: Sink>(
     alloc: Global,
-    native: Arch,
-    bundle: &[u8],
+    document: &Document,
     filter: &[u8],
     sink: &mut S,
 ) -> Result<bool, WriteFault>
-    ensures found { Certifies S.held S.failures sink.old sink.new native bundle.now filter.now result }
+    ensures found { Certifies S.held S.failures sink.old sink.new document.now.native document.now.bytes filter.now result }
     // Take a bundle that means a plain profile, and a filter as the compiler makes it of such. A certificate is written, unless
     // memory is refused or the sink fails.
-    ensures own { (policy : Policy) → IsOwnFilter native bundle.now filter.now policy
-        → CertifiesOwn S.held S.failures sink.old sink.new native bundle.now filter.now result }
+    ensures own { (policy : Policy) → IsOwnFilter document.now.native document.now.bytes filter.now policy
+        → CertifiesOwn S.held S.failures sink.old sink.new document.now.native document.now.bytes filter.now result }
 {
-    let judged = judge_text(alloc, native, bundle, filter);
+    let judged = judge_bundle(alloc, document, filter);
     write_judged(alloc, &judged, sink)
 }

@@ -6,9 +6,8 @@ ghost use Rattle.maker.specs.declared.check.Finding.TheVariants.{NoProfile};
 ghost use Rattle.maker.specs.Finding.{IsFinding, IsJudged, WritesFinding};
 
 use cert_check::{CheckError, check};
-use machines::Arch;
 use profile::Profile;
-use profile_json::{ProfileError, read_bundle};
+use profile_json::{Document, ProfileError};
 use std::alloc::{AllocError, Global};
 use std::fmt;
 use texts::{Sink, WriteFault, write_all};
@@ -77,37 +76,33 @@ fn judged<'a>(
     }
 }
 
-/// What is found of the bytes of a bundle, which is read for a native machine, of a filter and of a certificate. The
-/// bundle is judged first.
+/// What is found of a bundle, of the bytes of a filter and of a certificate. The bundle is judged first.
 pub fn finding_of(
     alloc: Global,
-    native: Arch,
-    bundle: &[u8],
+    document: &Document,
     filter: &[u8],
     cert: &[u8],
 ) -> Result<Finding, AllocError>
-    ensures { IfOk result (IsFinding native bundle.now filter.now cert.now) }
+    ensures { IfOk result (IsFinding document.now.native document.now.bytes filter.now cert.now) }
 {
-    let bundle = match read_bundle(alloc, bundle, native) {
-        Ok(bundle) => bundle,
-        Err(error) => return refused(error),
-    };
-    judged(alloc, &bundle.profile, filter, cert)
+    match document.bundle() {
+        Ok(bundle) => judged(alloc, &bundle.profile, filter, cert),
+        Err(error) => refused(error),
+    }
 }
 
-/// Writes the line for the bytes of a bundle, which is read for a native machine, of a filter and of a certificate. It is
-/// true of a yes. Where memory is refused, nothing is written.
+/// Writes the line for a bundle, the bytes of a filter and of a certificate. It is true of a yes. Where memory is refused, nothing is
+/// written.
 pub fn check_line<S: Sink>(
     alloc: Global,
-    native: Arch,
-    bundle: &[u8],
+    document: &Document,
     filter: &[u8],
     cert: &[u8],
     sink: &mut S,
 ) -> Result<bool, WriteFault>
-    ensures { WritesFinding S.held S.failures sink.old sink.new native bundle.now filter.now cert.now result }
+    ensures { WritesFinding S.held S.failures sink.old sink.new document.now.native document.now.bytes filter.now cert.now result }
 {
-    let Ok(finding) = finding_of(alloc, native, bundle, filter, cert) else {
+    let Ok(finding) = finding_of(alloc, document, filter, cert) else {
         return Err(WriteFault::OutOfMemory);
     };
     let Ok(line) = format!(in alloc; "{finding}\n") else {

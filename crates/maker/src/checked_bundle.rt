@@ -16,16 +16,14 @@ use crate::own::{followed, proposed};
 use crate::proposal::Proposal;
 use crate::shorter::shorter;
 use cert_check::{CheckError, Checked, check};
-use machines::Arch;
 use profile::Profile;
-use profile_json::read_bundle;
+use profile_json::Document;
 use rule_compile::{Planned, plan};
 use std::alloc::Global;
 
-/// Holds what is made of one bundle, for as long as its checked filter is used, which is lent.
+/// Holds what is made of one bundle, for as long as its checked filter is used, which is lent. The profile is lent to it.
 #[derive(Drop)]
 pub struct CheckedBundle {
-    profile: Option<Profile>,
     // What was proposed first, if something was.
     shorter: Option<Proposal>,
     // The compiler's own.
@@ -136,48 +134,44 @@ impl CheckedBundle {
     /// With nothing in it.
     pub fn new() -> CheckedBundle {
         CheckedBundle {
-            profile: None,
             shorter: None,
             own: None,
             followed: None,
         }
     }
 
-    /// The checked filter of a bundle, which is read for a native machine. The checker is asked once, unless it says no to a filter
-    /// or a certificate that is proposed.
+    /// The checked filter of a bundle. The checker is asked once, unless it says no to a filter or a certificate that is proposed.
     pub fn fill<'a>(
         &'a mut self,
         alloc: Global,
-        native: Arch,
-        bundle: &[u8],
+        document: &'a Document,
     ) -> Result<Checked<'a>, MakeError>
-        ensures ok { IfOk result (IsCheckedOf native bundle.now) }
-        ensures err { IfErr result (λ make_error. make_error ≢ OutOfMemory → IsMakeError native bundle.now make_error) }
+        ensures ok { IfOk result (IsCheckedOf document.now.native document.now.bytes) }
+        ensures err { IfErr result
+            (λ make_error. make_error ≢ OutOfMemory → IsMakeError document.now.native document.now.bytes make_error) }
     {
-        let profile = read_bundle(alloc, bundle, native)?.profile;
-        self.fill_for(alloc, profile)
+        let bundle = document.bundle()?;
+        self.fill_for(alloc, &bundle.profile)
     }
 
     /// The checked filter of a profile.
     pub fn fill_for<'a>(
         &'a mut self,
         alloc: Global,
-        profile: Profile,
+        profile: &'a Profile,
     ) -> Result<Checked<'a>, MakeError>
-        ensures profile { IfOk result (λ checked. profile_of checked ≡ profile) }
-        ensures ok { (native : TheArch) (bundle : List ℕ) → IsBundle native bundle profile → IfOk result (IsCheckedOf native bundle) }
+        ensures profile { IfOk result (λ checked. profile_of checked ≡ profile.now) }
+        ensures ok { (native : TheArch) (bundle : List ℕ) → IsBundle native bundle profile.now → IfOk result (IsCheckedOf native bundle) }
         // Of a plain profile only memory is ever refused.
-        ensures never { IsPlain profile → IfErr result (λ make_error. make_error ≡ OutOfMemory) }
-        ensures err { (native : TheArch) (bundle : List ℕ) → IsBundle native bundle profile
+        ensures never { IsPlain profile.now → IfErr result (λ make_error. make_error ≡ OutOfMemory) }
+        ensures err { (native : TheArch) (bundle : List ℕ) → IsBundle native bundle profile.now
             → IfErr result (λ make_error. make_error ≢ OutOfMemory → IsMakeError native bundle make_error) }
     {
         let CheckedBundle {
-            profile: place,
             shorter,
             own,
             followed,
         } = self;
-        let profile: &'a Profile = place.insert(profile);
         checked_for(alloc, profile, shorter, own, followed)
     }
 }

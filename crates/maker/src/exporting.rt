@@ -5,26 +5,25 @@ ghost use Rattle.maker.specs.Plain.{IsPlainBundle};
 use crate::checked_bundle::CheckedBundle;
 use crate::make_error::refuse;
 use export::{Form, export_form};
-use machines::Arch;
+use profile_json::Document;
 use std::alloc::Global;
 use texts::{Sink, WriteFault};
 
-/// Writes the filter of a bundle, which is read for a native machine, in a form, once it is compiled, certified and
-/// checked. If one of these refuses, the line that says so is written, and the answer is false.
+/// Writes the filter of a bundle in a form, once it is compiled, certified and checked. If one of these refuses, the line that says so
+/// is written, and the answer is false.
 pub fn export_bundle<S: Sink>(
     alloc: Global,
-    native: Arch,
-    bundle: &[u8],
+    document: &Document,
     form: Form,
     sink: &mut S,
 ) -> Result<bool, WriteFault>
-    ensures exports { Exports S.held S.failures sink.old sink.new native bundle.now form result }
+    ensures exports { Exports S.held S.failures sink.old sink.new document.now.native document.now.bytes form result }
     // Of a bundle that means a plain profile the filter is written, unless memory is refused or the sink fails.
-    ensures own { IsPlainBundle native bundle.now
-        → ExportsFilter S.held S.failures sink.old sink.new native bundle.now form result }
+    ensures own { IsPlainBundle document.now.native document.now.bytes
+        → ExportsFilter S.held S.failures sink.old sink.new document.now.native document.now.bytes form result }
 {
     let mut checked_bundle = CheckedBundle::new();
-    match checked_bundle.fill(alloc, native, bundle) {
+    match checked_bundle.fill(alloc, document) {
         Ok(checked) => {
             export_form(alloc, &checked, form, sink)?;
             Ok(true)

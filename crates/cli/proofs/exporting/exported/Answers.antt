@@ -13,5 +13,5 @@ returns-in-Ok c =
       after = c.export_bundle.new.sink;
       empty = ap (λ (v : Vec ℕ). v.items) c.new-kept.ensures.writer ∙ c.new.ensures.items;
       exports = rw same c.in-Ok.ensures.exports;
-      file = rw same (c.in_ok-bytes-in-Ok.ensures ∙ ap (file_in c.args.native c.args.form c.in-Ok.done) c.deref.ensures.value);
+      file = rw same (rw c.native.ensures at (c.in_ok-bytes-in-Ok.ensures ∙ ap (file_in c.native.result c.args.form c.in-Ok.done) c.deref.ensures.value));
     }

@@ -13,7 +13,7 @@ returns-then-not-is_done c = record {
 
 pub returns : goal.returns
 returns c =
-    let same = c.deref-2.ensures.value ∙ c.in_ok-filter.ensures ∙ ap (read_as c.args.native) c.deref.ensures.value in
+    let same = c.deref-2.ensures.value ∙ (rw c.native.ensures at c.in_ok-filter.ensures) ∙ ap (read_as c.args.document.now.native) c.deref.ensures.value in
     if_ok c.drawn.result _ _
     (λ graph h. record {
       file = c.in_ok-file.file;

@@ -5,6 +5,6 @@ use Rattle.cli.proofs.reviewing.page_of.Goals as goal
 pub returns : goal.returns
 returns c = record {
   graph = c.in_ok-graph.graph;
-  drawn = rw c.native.ensures at (rw c.bytes.ensures at c.in_ok-graph.ensures);
+  drawn = c.in_ok-graph.ensures;
   text = record { bytes = c.in_ok-bytes.ensures ∙ ap page_of_one c.side_of.ensures; end = refl };
 }

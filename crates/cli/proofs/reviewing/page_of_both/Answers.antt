@@ -17,9 +17,9 @@ returns c = λ one_machine.
       compared = c.in_ok-compared.compared;
       is_compared = c.in_ok-compared.ensures one_machine;
       old_graph = old_graph;
-      old_drawn = rw c.native-native.ensures at (rw c.bytes.ensures at c.in_ok-old_graph.ensures);
+      old_drawn = c.in_ok-old_graph.ensures;
       new_graph = new_graph;
-      new_drawn = rw c.native-native.ensures at (rw c.bytes-2.ensures at c.in_ok-new_graph.ensures);
+      new_drawn = rw one_machine at c.in_ok-new_graph.ensures;
       text = record {
         bytes = c.in_ok-bytes.ensures
             ∙ ap (λ (side : Side). page_of_two side second told) c.side_of-old_side.ensures
