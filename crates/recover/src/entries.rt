@@ -11,8 +11,8 @@ pub(crate) struct Entry {
     pub(crate) said: Said,
 }
 
-// A copy of what is said.
-fn copy_of(alloc: Global, said: &Said) -> Result<Said, AllocError> {
+/// A copy of what is said.
+pub(crate) fn copy_of(alloc: Global, said: &Said) -> Result<Said, AllocError> {
     Ok(Said {
         word: said.word,
         conds: Vec::from_slice(alloc, &said.conds)?,

@@ -1,7 +1,8 @@
 //! What is said of each name.
 use crate::calls::{Heard, hear, leaves_of};
 use crate::covering::Taste;
-use crate::leaves::Called;
+use crate::entries::copy_of;
+use crate::leaves::{Called, Leaf};
 use crate::machine_branches::Listed;
 use crate::said::Said;
 use crate::unlike::{Side, unlike};
@@ -10,7 +11,7 @@ use crate::work::Work;
 use call_tables::call_name;
 use kernel_check::Accepted;
 use machines::is_narrow;
-use std::alloc::Global;
+use std::alloc::{AllocError, Global};
 
 /// A name, and what is said of its call on one machine. Of the machines that have it, this is one with arguments of 64 bits,
 /// if there is one.
@@ -32,6 +33,15 @@ impl Named {
             leaves: &self.heard.leaves,
         }
     }
+}
+
+// Copies of what is said.
+fn copies_of(alloc: Global, said: &[Said]) -> Result<Vec<Said>, AllocError> {
+    let mut copies = Vec::new(alloc);
+    for one in said {
+        copies.push(copy_of(alloc, one)?)?;
+    }
+    Ok(copies)
 }
 
 // The greatest argument that calls of both machines compare.
@@ -71,6 +81,25 @@ fn join(
     Ok(())
 }
 
+// What is said of a call that goes these ways: as of a call that goes the same ways, if one was heard.
+fn heard_of(
+    alloc: Global,
+    work: &mut Work,
+    program: &Accepted<'_>,
+    found: &[Named],
+    (call, leaves): (Called, Vec<Leaf>),
+    manner: (u32, Taste),
+) -> Result<Heard, Unsaid> {
+    work.spend(found.len())?;
+    for known in found {
+        if known.heard.leaves == leaves {
+            let said = copies_of(alloc, known.said())?;
+            return Ok(Heard { said, leaves });
+        }
+    }
+    hear(alloc, work, program, (call, leaves), manner)
+}
+
 // Adds a call of a machine.
 fn push_call(
     alloc: Global,
@@ -97,7 +126,7 @@ fn push_call(
             return join(alloc, work, program, known, call, heard);
         }
     }
-    let heard = hear(alloc, work, program, (call, leaves), manner)?;
+    let heard = heard_of(alloc, work, program, found, (call, leaves), manner)?;
     found.push(Named { name, call, heard })?;
     Ok(())
 }
