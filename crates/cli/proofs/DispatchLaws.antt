@@ -8,7 +8,7 @@ use Rattle.machines.specs.Arch.{is_big_endian}
 use Rattle.byte_order.specs.Turned.{read_as}
 use Rattle.texts.specs.Failures.{Failures}
 use Rattle.texts.specs.declared.streams.fault.WriteFault.{WriteFault}
-use Rattle.export.specs.declared.form.Form.{Form}
+use Rattle.maker.specs.declared.export.form.Form.{Form}
 use Rattle.explain.specs.Any.{IsExplained as IsExplainedAny}
 use Rattle.explain.specs.Told.{IsExplained}
 use Rattle.wording.specs.declared.told.End.{End}

@@ -19,7 +19,7 @@ use Rattle.byte_order.specs.Turned.{read_as}
 use Rattle.texts.specs.Failures.{Failures}
 use Rattle.texts.specs.Sink.{StopsAt as StopsWriting, Wrote}
 use Rattle.texts.specs.declared.streams.fault.WriteFault.{WriteFault}
-use Rattle.export.specs.declared.form.Form.{Form}
+use Rattle.maker.specs.declared.export.form.Form.{Form}
 use Rattle.explain.specs.Told.{IsAssembled, IsExplained, IsRecorded, IsVersion}
 use Rattle.wording.specs.Told.{was_done}
 use Rattle.wording.specs.declared.told.End.{End}

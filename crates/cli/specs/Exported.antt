@@ -2,8 +2,8 @@
 use Rattle.std.specs.Prelude.{ℕ, ◌≡◌, Bool, true, List, [], Ok}
 use Rattle.machines.specs.declared.arch.Arch.{Arch}
 use Rattle.byte_order.specs.Turned.{written_as}
-use Rattle.export.specs.declared.form.Form.{Form}
-use Rattle.export.specs.declared.form.Form.TheVariants.{Raw}
+use Rattle.maker.specs.declared.export.form.Form.{Form}
+use Rattle.maker.specs.declared.export.form.Form.TheVariants.{Raw}
 use Rattle.maker.specs.Exported.{Exports}
 use Rattle.wording.specs.Told.{was_done}
 use Rattle.wording.specs.declared.told.Told.{Told}

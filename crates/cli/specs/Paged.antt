@@ -2,7 +2,7 @@
 use Rattle.std.specs.Prelude.{ℕ, ◌≡◌, ◌⊎◌, true, false, List}
 use Rattle.machines.specs.declared.arch.Arch.{Arch}
 use Rattle.byte_order.specs.Turned.{read_as}
-use Rattle.export.specs.declared.form.Form.TheVariants.{Raw}
+use Rattle.maker.specs.declared.export.form.Form.TheVariants.{Raw}
 use Rattle.page.specs.Page.{Side, page_of_one, page_of_two}
 use Rattle.review.specs.Reviewed.{IsReviewed}
 use Rattle.show.specs.Shown.{IsDrawn}

@@ -6,8 +6,8 @@ use Rattle.machines.specs.declared.arch.Arch.TheVariants.{LinuxX86_64}
 use Rattle.machines.specs.Arch.{native_called}
 use Rattle.command_line.specs.Lines.{texts}
 use Rattle.command_line.specs.Table.{Text}
-use Rattle.export.specs.declared.form.Form.{Form}
-use Rattle.export.specs.declared.form.Form.TheVariants.{Raw, Listing, Certificate}
+use Rattle.maker.specs.declared.export.form.Form.{Form}
+use Rattle.maker.specs.declared.export.form.Form.TheVariants.{Raw, Listing, Certificate}
 use Rattle.cli.specs.declared.parts.Parts.{Parts as Lent}
 
 -- The machine of that name. The table takes no name that calls none.

@@ -7,8 +7,8 @@ ghost use Rattle.command_line.specs.Table.{words_of};
 ghost use Rattle.command_line.specs.declared.meanings.Meaning.TheVariants.{Machine};
 
 use aside::Leave;
-pub use export::Form;
 use machines::Arch;
+pub use maker::Form;
 
 /// The arguments behind the name of a command, in the order of its row. One that is not there is empty.
 #[derive(Clone, Copy)]

@@ -4,7 +4,7 @@ use Rattle.texts.specs.Failures.{Failures}
 use Rattle.texts.specs.declared.streams.fault.WriteFault.{WriteFault}
 use Rattle.std.specs.Io.KnownBytes.{Appends}
 use Rattle.machines.specs.declared.arch.Arch.{Arch}
-use Rattle.export.specs.declared.form.Form.TheVariants.{Raw}
+use Rattle.maker.specs.declared.export.form.Form.TheVariants.{Raw}
 use Rattle.maker.specs.Certified.{Certifies}
 use Rattle.maker.specs.Exported.{Exports}
 use Rattle.maker.specs.Finding.{IsFinding, WritesFinding, is_yes}

@@ -2,8 +2,8 @@
 use Rattle.std.specs.Prelude.{ℕ, ◌≡◌, ◌⊎◌, false, List}
 use Rattle.machines.specs.declared.arch.Arch.{Arch}
 use Rattle.cert_check.specs.declared.checked.Checked.{Checked}
-use Rattle.export.specs.Forms.{bytes_in}
-use Rattle.export.specs.declared.form.Form.TheVariants.{Raw}
+use Rattle.maker.specs.Forms.{bytes_in}
+use Rattle.maker.specs.declared.export.form.Form.TheVariants.{Raw}
 use Rattle.maker.specs.Certified.{IsRefuted, IsOpen, counterexample_line}
 use Rattle.maker.specs.Exported.{IsCheckedOf, IsMakeError, line_of}
 use Rattle.maker.specs.Finding.{IsFinding, is_yes}

@@ -11,8 +11,8 @@ use crate::added::machine_with;
 use crate::answers::written;
 use crate::of_texts::{certify_text, check_text, export_text};
 use crate::status::{DONE, NO_MEMORY, NO_NATIVE, NO_ROOM, REFUSED};
-use export::Form;
 use machines::Arch;
+use maker::Form;
 use std::alloc::Global;
 use texts::ToWrite;
 

@@ -4,9 +4,8 @@ ghost use Rattle.maker.specs.Certified.{Certifies};
 ghost use Rattle.maker.specs.Exported.{Exports};
 ghost use Rattle.maker.specs.Finding.{WritesFinding};
 
-use export::Form;
 use machines::Arch;
-use maker::{certify_bundle, check_line, export_bundle};
+use maker::{Form, certify_bundle, check_line, export_bundle};
 use profile_json::Document;
 use std::alloc::{AllocError, Global};
 use texts::{Sink, WriteFault};

@@ -13,9 +13,9 @@ use Rattle.cert_check.specs.Right.{IsRight}
 use Rattle.kernel_check.specs.Accepted.{IsAccepted}
 use Rattle.cert_check.specs.Checked.{cert_of, profile_of, program_of}
 use Rattle.texts.specs.Failures.{Failures}
-use Rattle.export.specs.declared.form.Form.{Form}
-use Rattle.export.specs.declared.form.Form.TheVariants.{Raw}
-use Rattle.export.specs.Forms.{bytes_in}
+use Rattle.maker.specs.declared.export.form.Form.{Form}
+use Rattle.maker.specs.declared.export.form.Form.TheVariants.{Raw}
+use Rattle.maker.specs.Forms.{bytes_in}
 use Rattle.texts.specs.Sink.{WritesMade}
 use Rattle.texts.specs.declared.streams.fault.WriteFault.{WriteFault}
 use Rattle.texts.specs.declared.streams.fault.WriteFault.TheVariants.{Write, OutOfMemory}

@@ -25,7 +25,7 @@ use Rattle.certify.specs.Error.{IsOfSize}
 use Rattle.maker.proofs.CompiledLaws.{compiled}
 use Rattle.texts.specs.Failures.{Failures}
 use Rattle.texts.specs.declared.streams.fault.WriteFault.{WriteFault}
-use Rattle.export.specs.declared.form.Form.{Form}
+use Rattle.maker.specs.declared.export.form.Form.{Form}
 use Rattle.maker.specs.declared.make_error.MakeError.{MakeError}
 use Rattle.maker.specs.declared.make_error.MakeError.TheVariants.{Profile, Compile, Certify, Check, OutOfMemory}
 use Rattle.maker.specs.Exported.{Exports, ExportsFilter, IsToldAs, IsMakeError}

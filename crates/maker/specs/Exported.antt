@@ -15,12 +15,12 @@ use Rattle.cert_check.specs.declared.checked.Checked.{Checked}
 use Rattle.cert_check.specs.Checked.{profile_of, program_of}
 use Rattle.cert_check.specs.Fault.{text_of as error_text}
 use Rattle.texts.specs.Failures.{Failures}
-use Rattle.export.specs.Forms.{bytes_in}
+use Rattle.maker.specs.Forms.{bytes_in}
 use Rattle.texts.specs.Sink.{WritesMade}
 use Rattle.texts.specs.declared.streams.fault.WriteFault.{WriteFault}
 use Rattle.texts.specs.declared.streams.fault.WriteFault.TheVariants as fault
-use Rattle.export.specs.declared.form.Form.{Form}
-use Rattle.export.specs.declared.form.Form.TheVariants.{Raw, Certificate}
+use Rattle.maker.specs.declared.export.form.Form.{Form}
+use Rattle.maker.specs.declared.export.form.Form.TheVariants.{Raw, Certificate}
 use Rattle.texts.specs.Lines.{line_feed}
 use Rattle.maker.specs.Finding.{IsBundle, IsYes}
 use Rattle.maker.specs.Plain.{IsNotPlain}

@@ -5,4 +5,5 @@ pub mod Plain
 pub mod Exported
 pub mod Certified
 pub mod Told
+pub mod Forms
 pub mod inner

@@ -4,7 +4,8 @@ ghost use Rattle.maker.specs.Plain.{IsPlainBundle};
 
 use crate::checked_bundle::CheckedBundle;
 use crate::make_error::refuse;
-use export::{Form, export_form};
+use crate::export::exports::export_form;
+use crate::export::form::Form;
 use profile_json::Document;
 use std::alloc::Global;
 use texts::{Sink, WriteFault};

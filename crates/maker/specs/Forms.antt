@@ -4,8 +4,8 @@ use Rattle.bpf_insn.specs.Bytes.{spelling}
 use Rattle.bpf_asm.specs.Listing.{listing}
 use Rattle.cert_check.specs.declared.checked.Checked.{Checked}
 use Rattle.cert_check.specs.Checked.{cert_of, program_of}
-use Rattle.export.specs.declared.form.Form.{Form}
-use Rattle.export.specs.declared.form.Form.TheVariants.{Raw, Listing, Certificate}
+use Rattle.maker.specs.declared.export.form.Form.{Form}
+use Rattle.maker.specs.declared.export.form.Form.TheVariants.{Raw, Listing, Certificate}
 
 -- a checked filter in a form
 abbrev pub bytes_in : Form → Checked → List ℕ

@@ -1,6 +1,4 @@
 //! A checked filter, written to a sink as bytes, as a certificate and as a listing.
-#![tactic(auto)]
-
 mod exports;
 mod form;
 

@@ -2,10 +2,10 @@
 ghost use Rattle.bpf_insn.specs.Bytes.{spelling};
 ghost use Rattle.bpf_asm.specs.Listing.{listing};
 ghost use Rattle.cert_check.specs.Checked.{cert_of, program_of};
-ghost use Rattle.export.specs.Forms.{bytes_in};
+ghost use Rattle.maker.specs.Forms.{bytes_in};
 ghost use Rattle.texts.specs.Sink.{Writes, WritesMade};
 
-use crate::form::Form;
+use crate::export::form::Form;
 use bpf_asm::disassemble;
 use cert_check::Checked;
 use std::alloc::Global;
