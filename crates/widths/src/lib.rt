@@ -1,5 +1,5 @@
 //! Bundles of narrowed profiles: they compare of each argument what a kernel reads of it, and nothing else. Each entry that is
-//! written in parts is told with its place.
+//! written in parts is told with its place. The module `unread_bits` tells which calls get past a profile by bits that no kernel reads.
 #![tactic(auto)]
 
 mod arguments;
