@@ -9,10 +9,10 @@ use Rattle.differ.specs.declared.direction.Direction.{Direction}
 use Rattle.differ.specs.declared.named.Call.{Call}
 use Rattle.differ.specs.Named.{is_named}
 use Rattle.profile.specs.Policy.{Policy}
-use Rattle.unread_bits.specs.Crowded.{AreCrowded}
-use Rattle.unread_bits.specs.Past.{AreAllPast, AreLikeOnCall, IsUnlike, is_past_of}
-use Rattle.unread_bits.specs.declared.calls.AllPast.{AllPast}
-use Rattle.unread_bits.specs.declared.past.Past.{Past}
+use Rattle.widths.specs.Crowded.{AreCrowded}
+use Rattle.widths.specs.Past.{AreAllPast, AreLikeOnCall, IsUnlike, is_past_of}
+use Rattle.widths.specs.declared.unread_bits.calls.AllPast.{AllPast}
+use Rattle.widths.specs.declared.unread_bits.past.Past.{Past}
 use Rattle.compare.specs.Complete.{is_crowded}
 use Rattle.compare.specs.Hints.{IsLeftOpen}
 use Rattle.compare.specs.Past.{ArePast, IsUndecided}

@@ -10,9 +10,9 @@ use Rattle.profile_json.specs.declared.fault.ProfileError.TheVariants.{OutOfMemo
 use Rattle.differ.specs.declared.direction.Direction.{Direction}
 use Rattle.differ.specs.declared.direction.Direction.TheVariants.{More, Less}
 use Rattle.differ.specs.OnCall.{is_for}
-use Rattle.unread_bits.specs.Crowded.{AreCrowded}
-use Rattle.unread_bits.specs.Past.{AllAreLike, AreLikeOnCall, IsUnlike}
-use Rattle.unread_bits.specs.declared.past.Past.{Past}
+use Rattle.widths.specs.Crowded.{AreCrowded}
+use Rattle.widths.specs.Past.{AllAreLike, AreLikeOnCall, IsUnlike}
+use Rattle.widths.specs.declared.unread_bits.past.Past.{Past}
 use Rattle.widths.specs.Narrow.{IsBundle}
 use Rattle.compare.specs.declared.lint.hints.Hinted.{Hinted}
 

@@ -21,7 +21,7 @@ use Rattle.profile.specs.declared.rules.Rule.{Rule}
 use Rattle.profile.specs.Said.{matches}
 use Rattle.profile_json.specs.ByEntry.{AreRulesOf}
 use Rattle.wording.specs.Phrases.{action_text, hexadecimal, machine_with}
-use Rattle.unread_bits.specs.declared.past.Past.{Past}
+use Rattle.widths.specs.declared.unread_bits.past.Past.{Past}
 use Rattle.compare.specs.declared.lint.past.Way.{Way}
 use Rattle.compare.specs.declared.lint.past.Way.TheVariants.{GetsPast, IsStopped}
 use Rattle.compare.specs.declared.lint.past.Finding.{Finding}

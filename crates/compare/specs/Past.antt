@@ -6,9 +6,9 @@ use Rattle.wording.specs.Phrases.{machine_with}
 use Rattle.differ.specs.declared.direction.Direction.{Direction}
 use Rattle.differ.specs.declared.direction.Direction.TheVariants.{More, Less}
 use Rattle.differ.specs.OnCall.{is_for}
-use Rattle.unread_bits.specs.Crowded.{AreCrowded}
-use Rattle.unread_bits.specs.Past.{AllAreLike, AreLikeOnCall, IsUnlike, NothingGetsPast, NothingIsStopped, is_past_of}
-use Rattle.unread_bits.specs.declared.past.Past.{Past}
+use Rattle.widths.specs.Crowded.{AreCrowded}
+use Rattle.widths.specs.Past.{AllAreLike, AreLikeOnCall, IsUnlike, NothingGetsPast, NothingIsStopped, is_past_of}
+use Rattle.widths.specs.declared.unread_bits.past.Past.{Past}
 use Rattle.profile.specs.Policy.{Policy}
 use Rattle.compare.specs.Complete.{is_crowded}
 use Rattle.compare.specs.declared.lint.past.Finding.{Finding}

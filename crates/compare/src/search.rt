@@ -10,7 +10,7 @@ ghost use Rattle.differ.specs.Named.{is_named};
 ghost use Rattle.compare.specs.Complete.{IsCrowded, is_crowded, is_on};
 ghost use Rattle.compare.specs.Difference.{IsDifference};
 ghost use Rattle.compare.specs.Past.{IsUndecided};
-ghost use Rattle.unread_bits.specs.Crowded as past;
+ghost use Rattle.widths.specs.Crowded as past;
 
 use crate::difference::{Difference, difference_on};
 use call_record::Record;

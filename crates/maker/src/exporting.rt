@@ -3,9 +3,9 @@ ghost use Rattle.maker.specs.Exported.{Exports, ExportsFilter};
 ghost use Rattle.maker.specs.Plain.{IsPlainBundle};
 
 use crate::checked_bundle::CheckedBundle;
-use crate::make_error::refuse;
 use crate::export::exports::export_form;
 use crate::export::form::Form;
+use crate::make_error::refuse;
 use profile_json::Document;
 use std::alloc::Global;
 use texts::{Sink, WriteFault};

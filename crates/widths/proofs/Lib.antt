@@ -13,3 +13,7 @@ pub mod BuildLaws
 pub mod SuitLaws
 pub mod LowerLaws
 pub mod OwnerLaws
+pub mod PairLaws
+pub mod UnlikeLaws
+pub mod CallLaws
+pub mod AlikeLaws

@@ -10,4 +10,6 @@ pub mod Reading
 pub mod Rows
 pub mod Tables
 pub mod Reads
+pub mod Crowded
+pub mod Past
 pub mod inner

@@ -10,6 +10,7 @@ mod narrowing;
 mod plans;
 mod text;
 mod told;
+mod unread_bits;
 mod written;
 
 pub use arguments::{Reading, cut_bits, read_bits, readings};
@@ -19,3 +20,4 @@ pub use narrowing::{
 };
 pub use text::Text;
 pub use told::{Narrowing, narrow};
+pub use unread_bits::{AllPast, Past, alike_calls_go_equally_far, all_past, past_on};

@@ -4,7 +4,7 @@ ghost use Rattle.machines.specs.declared.arch.Family.{Family as TheFamily};
 ghost use Rattle.profile.specs.Policy.{Policy};
 ghost use Rattle.differ.specs.Named.{is_call, is_named};
 ghost use Rattle.compare.specs.Past.{AreBoth, IsFinding};
-ghost use Rattle.unread_bits.specs.Crowded.{AreCrowded};
+ghost use Rattle.widths.specs.Crowded.{AreCrowded};
 
 use crate::lint::past::{Finding, Past};
 use crate::search::{Crowded, crowded_of};
@@ -12,7 +12,7 @@ use differ::{Call, Direction, all_steps};
 use machines::Family;
 use profile::Profile;
 use std::alloc::{AllocError, Global};
-use unread_bits::all_past;
+use widths::all_past;
 
 // What the calls that get past and those that are stopped come to.
 fn finding_of(past: Vec<Past>, stopped: Vec<Past>, crowded: Vec<Crowded>) -> Finding

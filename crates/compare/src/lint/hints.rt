@@ -6,8 +6,8 @@ ghost use Rattle.profile_json.specs.declared.fault.ProfileError.TheVariants.{Out
 ghost use Rattle.differ.specs.declared.direction.Direction.TheVariants.{More, Less};
 ghost use Rattle.compare.specs.Hints.{AreLikeAsDecided, IsHint};
 ghost use Rattle.compare.specs.Past.{IsFinding};
-ghost use Rattle.unread_bits.specs.Past.{GetsPast, IsStopped};
-ghost use Rattle.unread_bits.specs.declared.past.Past.{Past as ThePast};
+ghost use Rattle.widths.specs.Past.{GetsPast, IsStopped};
+ghost use Rattle.widths.specs.declared.unread_bits.past.Past.{Past as ThePast};
 ghost use Rattle.widths.specs.Narrow.{IsBundle};
 
 use crate::lint::decided::finding;

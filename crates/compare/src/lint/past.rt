@@ -1,6 +1,6 @@
 //! What is found of the calls that get past a profile, and of those that are stopped by it.
 use crate::search::Crowded;
-pub use unread_bits::Past;
+pub use widths::Past;
 
 /// How a call fares beside the same call with the bits at 0 that are not read.
 #[derive(Clone, Copy, Debug, PartialEq, Eq)]

@@ -6,7 +6,7 @@ use Rattle.differ.specs.OnCall.{AreCrowded}
 use Rattle.differ.specs.Named.{is_call}
 use Rattle.compare.specs.Complete.{IsCrowded, is_crowded}
 use Rattle.compare.specs.Past.{IsUndecided}
-use Rattle.unread_bits.specs.Crowded as past
+use Rattle.widths.specs.Crowded as past
 use Rattle.compare.specs.declared.search.Crowded.{Crowded}
 use Rattle.compare.proofs.CompleteLaws.{any_last, any_more, any_push, on_crowded}
 use Rattle.compare.proofs.search.crowded_of.Goals as goal

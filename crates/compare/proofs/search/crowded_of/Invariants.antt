@@ -5,7 +5,7 @@ use Rattle.differ.specs.OnCall.{AreCrowded}
 use Rattle.differ.specs.Named.{is_named}
 use Rattle.compare.specs.Complete.{IsCrowded, is_crowded}
 use Rattle.compare.specs.Past.{IsUndecided}
-use Rattle.unread_bits.specs.Crowded as past
+use Rattle.widths.specs.Crowded as past
 use Rattle.compare.proofs.search.crowded_of.Given as goal
 
 abbrev pub invariant-loop-call : goal.invariant-loop-call

@@ -4,7 +4,7 @@ use Rattle.std.proofs.lemmas.List.Elements.{All-get_or}
 use Rattle.std.specs.List.{list_any}
 use Rattle.differ.specs.Named.{is_call}
 use Rattle.differ.specs.declared.named.Call.{Call}
-use Rattle.unread_bits.specs.Crowded.{AreCrowded}
+use Rattle.widths.specs.Crowded.{AreCrowded}
 use Rattle.compare.proofs.CompleteLaws.{any_push}
 use Rattle.compare.proofs.lint.decided.add_all.Goals as goal
 

@@ -2,7 +2,7 @@ use Rattle.std.proofs.Common.{◌≡◌, ℕ, true, take}
 use Rattle.std.specs.List.{All}
 use Rattle.profile.specs.Policy.{Policy}
 use Rattle.differ.specs.Named.{is_named}
-use Rattle.unread_bits.specs.Crowded.{AreCrowded}
+use Rattle.widths.specs.Crowded.{AreCrowded}
 use Rattle.compare.proofs.lint.decided.add_all.Given as goal
 
 abbrev pub invariant-loop-call : goal.invariant-loop-call

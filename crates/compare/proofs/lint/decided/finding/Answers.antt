@@ -4,7 +4,7 @@ use Rattle.std.proofs.lemmas.List.Elements.{All-nil, All-same}
 use Rattle.differ.specs.declared.direction.Direction.TheVariants.{More, Less}
 use Rattle.differ.specs.declared.named.Call.{Call}
 use Rattle.differ.specs.Named.{is_named}
-use Rattle.unread_bits.specs.Crowded.{AreCrowded}
+use Rattle.widths.specs.Crowded.{AreCrowded}
 use Rattle.compare.specs.Complete.{is_crowded}
 use Rattle.compare.specs.Past.{IsUndecided}
 use Rattle.compare.proofs.PastLaws.{past_are}

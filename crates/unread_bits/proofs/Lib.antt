@@ -1,4 +1,0 @@
-pub mod PairLaws
-pub mod UnlikeLaws
-pub mod CallLaws
-pub mod AlikeLaws

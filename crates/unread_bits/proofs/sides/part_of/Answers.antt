@@ -1,7 +1,0 @@
-use Rattle.std.proofs.Common.{ap, sym}
-use Rattle.profile.specs.Said.{compares}
-use Rattle.unread_bits.proofs.sides.part_of.Goals as goal
-
-pub returns : goal.returns
-returns c = λ a b read.
-    ap (compares c.args.cond.now.op c.args.cond.now.value c.args.cond.now.datum) (sym (read c.args.cond.now.index c.args.cond.now.in_range))

@@ -1,3 +1,0 @@
-pub mod Crowded
-pub mod Past
-pub mod inner
