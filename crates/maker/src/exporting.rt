@@ -3,8 +3,7 @@ ghost use Rattle.maker.specs.Exported.{Exports, ExportsFilter};
 ghost use Rattle.maker.specs.Plain.{IsPlainBundle};
 
 use crate::checked_bundle::CheckedBundle;
-use crate::export::exports::export_form;
-use crate::export::form::Form;
+use crate::export::{Form, export_form};
 use crate::make_error::refuse;
 use profile_json::Document;
 use std::alloc::Global;
