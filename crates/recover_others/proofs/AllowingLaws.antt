@@ -23,7 +23,7 @@ use Rattle.maker.specs.Finding.{IsBundle}
 use Rattle.maker.specs.declared.evidence.evidence.Evidence.{Evidence}
 use Rattle.maker.specs.declared.evidence.evidence.Evidence.TheVariants.{Certificate, Refuting}
 use Rattle.maker.specs.declared.make_error.MakeError.{MakeError}
-use Rattle.other_calls.specs.Guarded.{IsGuarded}
+use Rattle.recover_others.specs.Guarded.{IsGuarded}
 use Rattle.recover_others.specs.RecoveredOthers.{IsCertified, IsRightAllowing, MeansAllowing, SaysAllowing}
 
 -- a bundle means one profile

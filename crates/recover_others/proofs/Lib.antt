@@ -1,1 +1,4 @@
 mod AllowingLaws
+pub mod TurnLaws
+pub mod GuardLaws
+pub mod LimitLaws

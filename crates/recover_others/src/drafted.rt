@@ -1,11 +1,11 @@
 //! What is written of a filter before it is judged.
 use crate::guess::machines_of;
 use crate::member::with_member;
+use crate::other_calls::guarded;
 use crate::unallowed::Unallowed;
 use bpf_insn::Program;
 use kernel_check::accept;
 use machines::Arch;
-use other_calls::guarded;
 use recover::{Passed, Unsaid, draft_of};
 use std::alloc::Global;
 

@@ -5,11 +5,11 @@ ghost use Rattle.maker.specs.Finding.{IsBundle};
 ghost use Rattle.recover_others.specs.Others.{AllowsOthers};
 ghost use Rattle.recover_others.specs.RecoveredOthers.{IsCertified, IsRecoveredOthers, MeansAllowing};
 
+use crate::other_calls::guarded;
 use crate::told::allows_others;
 use crate::unallowed::Unallowed;
 use machines::Arch;
 use maker::{Evidence, MakeError, judge_filter};
-use other_calls::guarded;
 use profile::Profile;
 use profile_json::read_bundle;
 use recover::Unsaid;

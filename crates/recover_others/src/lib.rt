@@ -10,11 +10,13 @@ mod found;
 mod guess;
 mod judged;
 mod member;
+mod other_calls;
 mod shown;
 mod telling;
 mod told;
 mod unallowed;
 
 pub use found::recover_others;
+pub use other_calls::{Unguarded, guarded};
 pub use telling::line_of;
 pub use unallowed::Unallowed;

@@ -1,5 +1,5 @@
 //! Why no section is found where other calls are allowed.
-use other_calls::Unguarded;
+use crate::other_calls::Unguarded;
 use recover::{Shown, Unsaid};
 use std::alloc::{AllocError, AllocFailed};
 

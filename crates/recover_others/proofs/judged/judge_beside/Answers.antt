@@ -2,7 +2,7 @@ use Rattle.std.proofs.Common.{List, ℕ, subst}
 use Rattle.machines.specs.declared.arch.Arch.{Arch}
 use Rattle.bpf_insn.specs.Bytes.{insns_of}
 use Rattle.maker.specs.Certified.{IsJudgement}
-use Rattle.other_calls.specs.Guarded.{IsGuarded}
+use Rattle.recover_others.specs.Guarded.{IsGuarded}
 use Rattle.recover_others.specs.RecoveredOthers.{IsCertified, MeansAllowing}
 use Rattle.recover_others.proofs.AllowingLaws.{if_ok, means_allowing}
 use Rattle.recover_others.proofs.judged.judge_beside.Goals as goal

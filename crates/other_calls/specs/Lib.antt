@@ -1,3 +1,0 @@
-pub mod Guarded
-pub mod Reason
-pub mod inner
