@@ -209,7 +209,7 @@ module _ {O : Type 0} (held : O → Option (List ℕ)) (failures : O → Failure
   ExportsTurned native bundle form result =
       ((result ≡ Err OutOfMemory) × (new ≡ old))
       ⊎ ((told : Told) × TellsExported native form bundle told × TellsObjects held failures old new told.bytes.items
-          (Ok (was_done told.end)) result)
+      (Ok (was_done told.end)) result)
 
   abbrev pub ExportsFor : Bool → Arch → List ℕ → Form → Result Bool Stop → Type 0
   ExportsFor true native bundle form result = ExportsTurned native bundle form result

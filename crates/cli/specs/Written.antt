@@ -26,7 +26,7 @@ abbrev pub IsItsSection : Arch → Told → Told → Type 0
 IsItsSection native made told =
     ((was_done made.end ≡ false) × (told ≡ made))
     ⊎ ((was_done made.end ≡ true) ×
-        ((was_done told.end ≡ true → IsSectionOf native made.bytes.items told.bytes.items) × IsEmptyUnlessDone told))
+    ((was_done told.end ≡ true → IsSectionOf native made.bytes.items told.bytes.items) × IsEmptyUnlessDone told))
 
 -- Where all calls of Linux are meant, a section is written. For the machines of the chosen lists, where none is read, it is the bundle.
 abbrev pub IsWrittenFor : Family → Arch → Told → Told → Type 0

@@ -16,7 +16,8 @@ use crate::comparing::{put_text, tell_why};
 use crate::files::{Files, read_document, read_filter};
 use crate::stops::Stop;
 use compare::{
-    Behind, Judged, behind_stub, counterexamples_behind, judge_behind, write_behind, write_counterexamples,
+    Behind, Judged, behind_stub, counterexamples_behind, judge_behind, write_behind,
+    write_counterexamples,
 };
 use machines::Arch;
 use maker::{Counterexample, Evidence};

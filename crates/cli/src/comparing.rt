@@ -20,7 +20,12 @@ pub(crate) fn put_text<E: Sink>(text: String, err: &mut E)
 }
 
 /// Explains a record that refutes a filter, if there is memory.
-pub(crate) fn tell_why<E: Sink>(alloc: Global, document: &Document, found: &Counterexample, err: &mut E)
+pub(crate) fn tell_why<E: Sink>(
+    alloc: Global,
+    document: &Document,
+    found: &Counterexample,
+    err: &mut E,
+)
     ensures { MayTellWhy E.held E.failures err.old err.new document.now.native document.now.bytes found.now.call }
 {
     match explain_found(alloc, document, found) {

@@ -35,11 +35,7 @@ fn file_of(
 }
 
 /// What is written of a bundle for its machine.
-pub(crate) fn exported(
-    alloc: Global,
-    document: &Document,
-    form: Form,
-) -> Result<Told, AllocError>
+pub(crate) fn exported(alloc: Global, document: &Document, form: Form) -> Result<Told, AllocError>
     ensures { IfOk result (TellsExported document.now.native form document.now.bytes) }
 {
     let mut kept = ToWrite::new(Vec::new(alloc));

@@ -30,7 +30,7 @@ use crate::recovering::recovered;
 use crate::remarking::remark_on;
 use crate::reviewing::review_as;
 use crate::run::run_bundles;
-use crate::showing::{annotated, drawn, describe, rules};
+use crate::showing::{annotated, describe, drawn, rules};
 use crate::stops::Stop;
 use crate::telling::{assembled, compare_as, linted, record, tell, tell_both};
 use command_line::{Command, CommandLine, read_arguments};

@@ -132,7 +132,7 @@ abbrev pub count_text : Way → ℕ → List ℕ
 count_text GetsPast count = if count == 1 then codes " call gets past\n" else codes " calls get past\n"
 count_text IsStopped count =
     if count == 1 then codes " call is stopped by bits that Linux does not read\n"
-        else codes " calls are stopped by bits that Linux does not read\n"
+    else codes " calls are stopped by bits that Linux does not read\n"
 
 abbrev pub count_line : Way → ℕ → List ℕ
 count_line way count = decimal count ++ count_text way count

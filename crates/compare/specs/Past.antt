@@ -27,7 +27,7 @@ pub record ArePast (family : Family) (p : Policy) (direction : Direction) (list 
   pub are_crowded : All (IsUndecided family p) crowded
   pub complete : (token nr : ℕ) → list_any (is_for token nr) p.rules ≡ true
       → AreLikeOnCall p token nr direction
-          ⊎ ((list_any (is_past_of token nr) list ≡ true) ⊎ (list_any (is_crowded token nr) crowded ≡ true))
+      ⊎ ((list_any (is_past_of token nr) list ≡ true) ⊎ (list_any (is_crowded token nr) crowded ≡ true))
   pub others : list ≡ [] → crowded ≡ [] → AllAreLike p direction
 
 -- the first ones get past, the second ones are stopped, and so are no others

@@ -26,7 +26,7 @@ pub use answered::{answered_calls_are_allowed, is_answered};
 pub use costing::costs;
 pub use drawing::drawn;
 pub use json_text::{Doubled, Trimmed, fault_of, without_unread};
-pub use reading::{Configuration, fault_in, describe};
+pub use reading::{Configuration, describe, fault_in};
 pub use remarked::remark_on;
 pub use spans::{Span, span_of};
 pub use unread::{refusing_unread, with_unread};

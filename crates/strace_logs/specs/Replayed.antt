@@ -89,7 +89,7 @@ fate_text left = if left then codes "left " else codes "refused "
 abbrev pub call_text : Refused → List ℕ
 call_text x =
     fate_text (is_left x.verdict) ++ name_of x.arch x.nr ++ codes ", number " ++ decimal x.nr
-        ++ codes " of " ++ machine_name x.arch ++ codes ": "
+    ++ codes " of " ++ machine_name x.arch ++ codes ": "
     ++ action_text x.verdict ++ codes ", "
 
 abbrev pub times_text : ℕ → List ℕ

@@ -90,7 +90,10 @@ fn add_all(
 }
 
 /// Puts a record before all others.
-pub(crate) fn put_first(found: &Counterexample, all: &mut Vec<Counterexample>) -> Result<(), AllocError>
+pub(crate) fn put_first(
+    found: &Counterexample,
+    all: &mut Vec<Counterexample>,
+) -> Result<(), AllocError>
     ensures { OnOk result (all.new.items ≡ found.now ∷ all.old.items) }
 {
     all.insert(0, *found)?;

@@ -4,13 +4,13 @@ ghost use Rattle.widths.specs.Reads as reads;
 ghost use Rattle.widths.specs.Crowded.{IsUnsettled};
 ghost use Rattle.widths.specs.Past.{AreLikeOnCall, IsUnlikeOf};
 
+use crate::arguments::read_bits;
 use crate::unread_bits::past::{Past, past_by};
 use crate::unread_bits::sides::side_of;
 use call_record::{Record, words_are_a_record};
 use differ::{Direction, Steps, Unlisted, bits_of, give_back, memory_for, unlike_at};
 use profile::Profile;
 use std::alloc::Global;
-use crate::arguments::read_bits;
 
 // How many of the lowest bits of each argument are read.
 fn reads_of(token: u32, nr: u32) -> [u32; 6]

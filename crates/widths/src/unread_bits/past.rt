@@ -7,10 +7,10 @@ ghost use Rattle.differ.specs.declared.direction.Direction.TheVariants.{Any, Mor
 ghost use Rattle.widths.specs.Past as spec;
 ghost use Rattle.widths.specs.inner.Pair.{IsLikeOne};
 
+use crate::narrowing::{cleared, cleared_is_alike};
 use call_record::{Record, Word, words_are_a_record};
 use differ::Direction;
 use profile::{Profile, each_record_is_said_one_verdict};
-use crate::narrowing::{cleared, cleared_is_alike};
 
 /// A call, and the same call with the bits at 0 that are not read. What a profile says of the two is unlike in a direction.
 #[derive(Clone, Copy, Debug)]
