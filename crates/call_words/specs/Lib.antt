@@ -4,3 +4,7 @@ pub mod Calls
 pub mod Near
 pub mod Wrong
 pub mod Laws
+pub mod Kinds
+pub mod Named
+pub mod Lines
+pub mod Told

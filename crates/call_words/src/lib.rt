@@ -1,6 +1,8 @@
 //! The words by which a call is asked for on a command line, and what is wrong with those that ask for none.
+//! `constant_names` names the constants that a profile's conditions compare arguments with.
 #![tactic(auto)]
 
+mod constant_names;
 mod constants;
 mod law;
 mod nearest;
@@ -9,6 +11,7 @@ mod sums;
 mod tables;
 mod wrong;
 
+pub use constant_names::names_of;
 pub use law::numbers_stay;
 pub use sums::sum;
 pub use tables::{

@@ -1,7 +1,7 @@
 -- What `read` and `lint` tell of a bundle.
 use Rattle.std.specs.Prelude.{ℕ, ◌≡◌, ◌⊎◌, Bool, true, false, if◌then◌else◌, List, [], ◌++◌, codes}
 use Rattle.machines.specs.declared.arch.Arch.{Arch}
-use Rattle.constant_names.specs.Told.{AreNames}
+use Rattle.call_words.specs.Told.{AreNames}
 use Rattle.compare.specs.Hints.{IsHint}
 use Rattle.compare.specs.declared.lint.hints.Hinted.{Hinted}
 use Rattle.compare.specs.Linted.{IsLinted}

@@ -2,7 +2,7 @@
 ghost use Rattle.std.specs.Prelude.{IfOk};
 ghost use Rattle.cli.specs.Read.{HasNames};
 
-use constant_names::names_of;
+use call_words::names_of;
 use profile_json::Document;
 use std::alloc::{AllocError, Global};
 use wording::Told;

@@ -1,5 +1,0 @@
-use Rattle.std.proofs.Common.{length}
-use Rattle.constant_names.proofs.bits.+all_bits.Given as goal
-
-abbrev pub decreases-all_bits : goal.decreases-all_bits
-decreases-all_bits l = length l.constants.now

@@ -1,6 +1,0 @@
-use Rattle.std.proofs.Common.{◌≡◌, drop}
-use Rattle.call_tables.specs.Table.{name_in, entries}
-use Rattle.constant_names.proofs.named.name_in.Given as goal
-
-abbrev pub invariant-loop-entry : goal.invariant-loop-entry
-invariant-loop-entry l = name_in (entries (drop l.entry-index l.table)) l.n ≡ name_in (entries l.table) l.n

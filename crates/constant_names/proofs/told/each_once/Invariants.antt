@@ -1,9 +1,0 @@
-use Rattle.std.proofs.Common.{◌≡◌, ◌++◌, [], drop, map, take}
-use Rattle.std.specs.Prelude.{string_bytes}
-use Rattle.constant_names.specs.Lines.{each_once}
-use Rattle.constant_names.proofs.told.each_once.Given as goal
-
-abbrev pub invariant-loop-at : goal.invariant-loop-at
-invariant-loop-at l =
-    string_bytes l.text ++ each_once (map string_bytes (take l.at l.lines)) (map string_bytes (drop l.at l.lines))
-    ≡ each_once [] (map string_bytes l.lines)

@@ -1,4 +1,0 @@
-pub mod Kinds
-pub mod Named
-pub mod Lines
-pub mod Told
