@@ -9,7 +9,7 @@ use Rattle.show.specs.Read.{IsReadOut}
 use Rattle.show.specs.Unread.{RefusesUnread}
 use Rattle.wording.specs.Told.{RefusesBundle, TellsText, was_done}
 use Rattle.wording.specs.declared.told.Told.{Told}
-use Rattle.rules_text.specs.Text.{IsTextOf}
+use Rattle.show.specs.Text.{IsTextOf}
 
 -- behind what was told stand the lines of the names of constants
 pub record HasNames (native : Arch) (bundle : List ℕ) (inner told : Told) : Type 0 where

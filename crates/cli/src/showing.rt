@@ -4,7 +4,7 @@ ghost use Rattle.machines.specs.declared.arch.Arch.{Arch as TheArch};
 ghost use Rattle.byte_order.specs.Turned.{read_as};
 ghost use Rattle.show.specs.Read.{IsReadOut};
 ghost use Rattle.show.specs.Shown.{IsDrawn};
-ghost use Rattle.rules_text.specs.Text.{IsTextOf};
+ghost use Rattle.show.specs.Text.{IsTextOf};
 ghost use Rattle.cli.specs.Read as spec;
 ghost use Rattle.cli.specs.Read.{HasHint, HasNames, TellsRead, TellsRules};
 ghost use Rattle.cli.specs.Told.{OfBundle, TellsFilter, of_one};
@@ -17,7 +17,7 @@ use crate::stops::Stop;
 use compare::lint::Hinted;
 use machines::Arch;
 use profile_json::Document;
-use rules_text::bundle_text;
+use show::bundle_text;
 use std::alloc::{AllocError, Global};
 use wording::{End, Told, refused_profile};
 

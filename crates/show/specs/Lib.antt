@@ -6,4 +6,5 @@ pub mod Remarked
 pub mod Answered
 pub mod Spans
 pub mod Costs
+pub mod Text
 pub mod inner

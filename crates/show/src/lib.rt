@@ -1,4 +1,5 @@
 //! Bundles and filters described: what a bundle means or where it is wrong. Also what the lines of a filter mean, and what it costs a call.
+//! `rules_text` has a profile as plain text for other programs.
 #![tactic(auto)]
 
 mod annotating;
@@ -17,6 +18,7 @@ mod place;
 mod placed;
 mod reading;
 mod remarked;
+mod rules_text;
 mod search;
 mod spans;
 mod unread;
@@ -28,5 +30,6 @@ pub use drawing::drawn;
 pub use json_text::{Doubled, Trimmed, fault_of, without_unread};
 pub use reading::{Configuration, describe, fault_in};
 pub use remarked::remark_on;
+pub use rules_text::{bundle_text, text_of};
 pub use spans::{Span, span_of};
 pub use unread::{refusing_unread, with_unread};

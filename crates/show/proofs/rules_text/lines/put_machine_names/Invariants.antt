@@ -3,7 +3,7 @@ use Rattle.std.proofs.Common.{◌≡◌, ◌++◌, drop}
 use Rattle.std.specs.Prelude.{codes, string_bytes}
 use Rattle.std.specs.List.{flat_map}
 use Rattle.machines.specs.Arch.{machine_name}
-use Rattle.rules_text.proofs.lines.put_machine_names.Given as goal
+use Rattle.show.proofs.rules_text.lines.put_machine_names.Given as goal
 
 abbrev pub invariant-loop-arch : goal.invariant-loop-arch
 invariant-loop-arch l =

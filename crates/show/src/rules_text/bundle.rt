@@ -2,9 +2,9 @@
 ghost use Rattle.std.specs.Prelude.{IfErr, IfOk, IfSome, string_bytes};
 ghost use Rattle.profile_json.specs.Breaks.{Breaks};
 ghost use Rattle.profile_json.specs.Fault.{fault_of};
-ghost use Rattle.rules_text.specs.Text.{IsTextOf};
+ghost use Rattle.show.specs.Text.{IsTextOf};
 
-use crate::lines::text_of;
+use crate::rules_text::lines::text_of;
 use profile_json::{Document, ProfileError};
 use std::alloc::Global;
 

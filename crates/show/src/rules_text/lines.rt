@@ -2,7 +2,7 @@
 ghost use Rattle.std.specs.Prelude.{◌≡◌, ◌++◌, IfOk, codes, string_bytes};
 ghost use Rattle.std.specs.List.{flat_map};
 ghost use Rattle.machines.specs.Arch.{machine_name};
-ghost use Rattle.rules_text.specs.Text as spec;
+ghost use Rattle.show.specs.Text as spec;
 
 use call_record::Word;
 use machines::Arch;

@@ -2,8 +2,8 @@
 use Rattle.std.proofs.Common.{◌≡◌, ◌++◌, drop}
 use Rattle.std.specs.Prelude.{string_bytes}
 use Rattle.std.specs.List.{flat_map}
-use Rattle.rules_text.specs.Text.{rule_line}
-use Rattle.rules_text.proofs.lines.put_rules.Given as goal
+use Rattle.show.specs.Text.{rule_line}
+use Rattle.show.proofs.rules_text.lines.put_rules.Given as goal
 
 abbrev pub invariant-loop-rule : goal.invariant-loop-rule
 invariant-loop-rule l =

@@ -1,6 +1,4 @@
 //! A profile as plain text, which a program can read that knows neither bundles nor names of calls.
-#![tactic(auto)]
-
 mod bundle;
 mod lines;
 

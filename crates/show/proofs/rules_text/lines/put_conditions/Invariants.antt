@@ -2,8 +2,8 @@
 use Rattle.std.proofs.Common.{◌≡◌, ◌++◌, drop}
 use Rattle.std.specs.Prelude.{string_bytes}
 use Rattle.std.specs.List.{flat_map}
-use Rattle.rules_text.specs.Text.{condition_text}
-use Rattle.rules_text.proofs.lines.put_conditions.Given as goal
+use Rattle.show.specs.Text.{condition_text}
+use Rattle.show.proofs.rules_text.lines.put_conditions.Given as goal
 
 abbrev pub invariant-loop-cond : goal.invariant-loop-cond
 invariant-loop-cond l =
