@@ -1,3 +1,4 @@
 mod FrontLaws
 mod AsideLaws
 mod ToldLaws
+mod RecoveredLaws

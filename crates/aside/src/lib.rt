@@ -3,6 +3,8 @@
 //!
 //! A filter is built that gives the records of these calls to a filter compiled for the bundle. All others it gives to the filter that is
 //! to be judged. It is proved that the latter records get the same verdict from both. Nothing need be believed of the former.
+//!
+//! `recovered` has the section for which a filter is right but for such calls, and which is judged so.
 #![tactic(auto)]
 
 mod found;
@@ -10,10 +12,12 @@ mod front;
 mod judged;
 mod leave;
 mod named;
+mod recovered;
 mod undecided;
 mod written;
 
 pub use found::counterexamples_but;
 pub use judged::{But, judge_but};
 pub use leave::Leave;
+pub use recovered::{Found, RecoveredBut, recover_but, recover_told};
 pub use written::{write_but, write_found};

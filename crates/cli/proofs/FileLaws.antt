@@ -33,7 +33,7 @@ use Rattle.compare.specs.Counterexamples.{AllRefute, Refutes, TellsAll}
 use Rattle.cli.specs.Explained.{TellsAllBehind, TellsBehind, TellsStub, WritesFound, WritesSome}
 use Rattle.cli.specs.Files.{IsEnough}
 use Rattle.cli.specs.Recovered.{TellsBy, TellsIf, has_word, leave_in, leaves_out}
-use Rattle.recover_but.specs.RecoveredBut.{IsToldBut}
+use Rattle.aside.specs.RecoveredBut.{IsToldBut}
 use Rattle.recover.specs.Recovered.{IsRecovered}
 use Rattle.recover_others.specs.RecoveredOthers.{IsRecoveredOthers}
 use Rattle.cli.proofs.EnoughLaws.{all_read, all_read_of, first_of_file, same_fault, whole_filter}

@@ -4,7 +4,7 @@ use Rattle.std.specs.Str.{bytes_eq}
 use Rattle.aside.specs.declared.leave.Leave.{Leave}
 use Rattle.machines.specs.declared.arch.Arch.{Arch}
 use Rattle.recover.specs.Recovered.{IsRecovered}
-use Rattle.recover_but.specs.RecoveredBut.{IsToldBut}
+use Rattle.aside.specs.RecoveredBut.{IsToldBut}
 use Rattle.recover_others.specs.RecoveredOthers.{IsRecoveredOthers}
 use Rattle.wording.specs.Told.{was_done}
 use Rattle.wording.specs.declared.told.Told.{Told}

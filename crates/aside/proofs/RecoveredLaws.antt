@@ -15,7 +15,7 @@ use Rattle.compare.proofs.WriteLaws.{means_right, whole_is_right}
 use Rattle.aside.specs.declared.leave.Leave.{Leave}
 use Rattle.aside.specs.Aside.{IsRightBut}
 use Rattle.aside.specs.Judged.{IsJudged, MeansRightBut, stub_calls}
-use Rattle.recover_but.specs.RecoveredBut.{IsCertified, IsRecoveredBut, lines_of}
+use Rattle.aside.specs.RecoveredBut.{IsCertified, IsRecoveredBut, lines_of}
 
 -- the filter is accepted if what stands behind its stub is
 pub accepted_too : (filter rest : List ℕ) (answered : List Calls) → IsBehind filter rest answered → AreAccepted rest → AreAccepted filter

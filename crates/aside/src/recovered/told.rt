@@ -3,10 +3,10 @@ ghost use Rattle.std.specs.Prelude.{◌≡◌, ◌-◌, [], IfOk, false, if◌th
 ghost use Rattle.machines.specs.Arch.{family_of};
 ghost use Rattle.compare.specs.Behind.{IsBehind};
 ghost use Rattle.compare.specs.StubTold as stub;
-ghost use Rattle.recover_but.specs.RecoveredBut as spec;
+ghost use Rattle.aside.specs.RecoveredBut as spec;
 
-use crate::found::{Found, recover_but};
-use aside::Leave;
+use crate::leave::Leave;
+use crate::recovered::found::{Found, recover_but};
 use compare::{Behind, Calls, behind_stub, calls_text, stub_text};
 use machines::{Arch, Family};
 use recover::Unsaid;

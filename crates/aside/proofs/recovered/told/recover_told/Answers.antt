@@ -1,8 +1,8 @@
 use Rattle.std.proofs.Common.{◌-◌, length}
 use Rattle.std.specs.String.{string_bytes}
 use Rattle.machines.specs.Arch.{family_of}
-use Rattle.recover_but.proofs.RecoveredLaws.{lines_told}
-use Rattle.recover_but.proofs.told.recover_told.Goals as goal
+use Rattle.aside.proofs.RecoveredLaws.{lines_told}
+use Rattle.aside.proofs.recovered.told.recover_told.Goals as goal
 
 pub returns : goal.returns
 returns c =

@@ -3,8 +3,6 @@
 //!
 //! A section is drafted that passes these calls over. None of that is trusted. It is judged with the filter, and handed out only if the
 //! filter is right but for the calls that are reported.
-#![tactic(auto)]
-
 mod found;
 mod told;
 

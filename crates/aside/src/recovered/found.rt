@@ -2,10 +2,11 @@
 ghost use Rattle.std.specs.Prelude.{◌≡◌, ℕ, IfOk, IfErr, List, string_bytes};
 ghost use Rattle.compare.specs.Behind.{IsBehind};
 ghost use Rattle.aside.specs.Judged.{stub_calls};
-ghost use Rattle.recover_but.specs.RecoveredBut.{IsCertified, IsRecoveredBut, IsUnsaidBut};
+ghost use Rattle.aside.specs.RecoveredBut.{IsCertified, IsRecoveredBut, IsUnsaidBut};
 ghost use Rattle.machines.specs.declared.arch.Arch.{Arch as TheArch};
 
-use aside::{But, Leave, judge_but};
+use crate::judged::{But, judge_but};
+use crate::leave::Leave;
 use compare::Behind;
 use machines::Arch;
 use maker::{Evidence, MakeError};
