@@ -13,6 +13,7 @@ import threading
 import time
 
 LIBC = ctypes.CDLL(None, use_errno=True)
+PATIENCE = 60  # seconds for a thread to load its filter
 
 
 class Program(ctypes.Structure):
@@ -29,9 +30,12 @@ def load(path):
         raise OSError(ctypes.get_errno(), path)
 
 
-def wait(path=None):
+def wait(path="", loaded=None):
+    """Waits without an end, once the filter of a file is loaded, if there is one."""
     if path:
         load(path)
+    if loaded:
+        loaded.set()
     while True:
         time.sleep(1000)
 
@@ -39,8 +43,10 @@ def wait(path=None):
 def main():
     for word in sys.argv[1:]:
         if word.startswith("+"):
-            threading.Thread(target=wait, args=(word[1:],), daemon=True).start()
-            time.sleep(0.2)
+            loaded = threading.Event()
+            threading.Thread(target=wait, args=(word[1:], loaded), daemon=True).start()
+            if not loaded.wait(PATIENCE):
+                raise TimeoutError(word)
         elif word == "child":
             if child := os.fork():
                 os.waitpid(child, 0)
