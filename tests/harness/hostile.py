@@ -211,9 +211,9 @@ def of_filter(dice, room):
 
 
 def of_certificate(dice, room):
-    """A certificate that is made up of nodes that contradict themselves, for `check`."""
+    """A certificate that is made up of nodes that contradict themselves, on both sides of the limit of work, for `check`."""
     make = dice.choice([asked_both_ways, with_far_numbers])
-    some_returns(room, *make(), much(dice, 10, 100))
+    some_returns(room, *make(), much(dice, 10, 16000))
     return f"check {make.__name__}", ["check", MACHINE, f"{room}/bundle.json", f"{room}/filter.bpf", f"{room}/made-up.cert"], b""
 
 

@@ -18,7 +18,7 @@ use Rattle.maker.specs.Answer.{IsAnswer, WritesAnswer}
 use Rattle.maker.specs.Certified.{Certifies, IsRefuted, IsOfFilter, IsOpen, IsUndecided}
 use Rattle.maker.specs.Finding.{IsFinding, TellsFinding, WritesFinding}
 use Rattle.maker.specs.declared.check.Finding.{Finding}
-use Rattle.maker.specs.declared.check.Finding.TheVariants.{Yes, No, NoProfile}
+use Rattle.maker.specs.declared.check.Finding.TheVariants.{Yes, No, NoProfile, TooLarge}
 use Rattle.maker.specs.declared.make_error.MakeError.{MakeError}
 use Rattle.maker.specs.declared.make_error.MakeError.TheVariants.{Profile, Compile, Certify, Check, OutOfMemory}
 use Rattle.maker.specs.declared.verdict.Answer.{Answer}
@@ -69,12 +69,13 @@ module _ (native : Arch) (bundle filter f : List ℕ) (enough : IsEnough 32768 f
   finding_of_file cert Yes h = yes_of_file cert h
   finding_of_file cert (No e) h = (h.0, h.1, (h.2.0, first_of_file filter f enough h.0 cert e h.2.0 h.2.1))
   finding_of_file cert (NoProfile e) h = h
+  finding_of_file cert TooLarge h = h
 
   module _ {S : Type 0} (held : S → Option (List ℕ)) (failures : S → Failures) (old new : S) where
     told_of_file : (cert : List ℕ) (result : Result Bool WriteFault) → TellsFinding held failures old new native bundle f cert result
         → TellsFinding held failures old new native bundle filter cert result
     told_of_file cert result h =
-        record { finding = h.finding; stands = finding_of_file cert h.finding h.stands; written = h.written; told = h.told }
+        record { finding = h.finding; stands = finding_of_file cert h.finding h.stands; limit = h.limit; written = h.written; told = h.told }
 
     pub check_of_file : (cert : List ℕ) (result : Result Bool WriteFault) → WritesFinding held failures old new native bundle f cert result
         → WritesFinding held failures old new native bundle filter cert result

@@ -9,7 +9,7 @@ use Rattle.compare.specs.declared.behind_runc.stub.calls.Calls.{Calls}
 use Rattle.maker.specs.Certified.{Certifies}
 use Rattle.maker.specs.Finding.{IsFinding, WritesFinding, is_yes}
 use Rattle.maker.specs.declared.check.Finding.{Finding}
-use Rattle.maker.specs.declared.check.Finding.TheVariants.{Yes, No, NoProfile}
+use Rattle.maker.specs.declared.check.Finding.TheVariants.{Yes, No, NoProfile, TooLarge}
 use Rattle.cli.specs.declared.stops.Stop.{Stop}
 use Rattle.cli.specs.declared.stops.Stop.TheVariants.{Usage, CannotRead, Read, Write, OutOfMemory, Refused, Doubtful}
 use Rattle.command_line.specs.declared.prose.Command.TheVariants.{Certify, Check, Run}
@@ -47,6 +47,7 @@ yes_of : (native : Arch) (b f c : List ℕ) (finding : Finding) → IsFinding na
 yes_of native b f c Yes is e = is
 yes_of native b f c (No fault) is e = absurd (cc)
 yes_of native b f c (NoProfile fault) is e = absurd (cc)
+yes_of native b f c TooLarge is e = absurd (cc)
 
 module _ {O : Type 0} (held : O → Option (List ℕ)) (failures : O → Failures) (old new : O) (native : Arch) where
   found : (b f c : List ℕ) (answer : Result Bool WriteFault) → WritesFinding held failures old new native b f c answer

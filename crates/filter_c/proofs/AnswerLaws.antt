@@ -9,7 +9,7 @@ use Rattle.maker.specs.Certified.{Certifies}
 use Rattle.maker.specs.Exported.{Exports}
 use Rattle.maker.specs.Finding.{IsFinding, WritesFinding, is_yes}
 use Rattle.maker.specs.declared.check.Finding.{Finding}
-use Rattle.maker.specs.declared.check.Finding.TheVariants.{Yes, No, NoProfile}
+use Rattle.maker.specs.declared.check.Finding.TheVariants.{Yes, No, NoProfile, TooLarge}
 use Rattle.filter_c.specs.Answer.{IsCertifiedAs, IsExportOf, IsFilterOf, IsNoCertificateOf, IsNoOf, IsRefusalOf}
 
 module _ {S : Type 0} (held : S → Option (List ℕ)) (failures : S → Failures) (old new : S) (native : Arch) (bundle filter cert items : List ℕ) where
@@ -48,6 +48,7 @@ module _ {S : Type 0} (held : S → Option (List ℕ)) (failures : S → Failure
   of_yes Yes h e = h
   of_yes (No x) h e = absurd (let f : true ≡ false = e in cc)
   of_yes (NoProfile x) h e = absurd (let f : true ≡ false = e in cc)
+  of_yes TooLarge h e = absurd (let f : true ≡ false = e in cc)
 
   pub is_yes_found : (result : Result Bool WriteFault) → WritesFinding held failures old new native bundle filter cert result → result ≡ Ok true
       → IsFinding native bundle filter cert Yes

@@ -1,7 +1,10 @@
 -- What is found of a bundle, a filter and a certificate, all three as bytes.
-use Rattle.std.specs.Prelude.{ℕ, ◌≡◌, ◌≢◌, Bool, true, false, List, [], ◌∷◌, ◌++◌, Option, Result, Ok, Err, IfOk, IfSome, codes}
+use Rattle.std.specs.Prelude.{ℕ, ◌≡◌, ◌≢◌, ⊤, Bool, true, false, List, [], ◌∷◌, ◌++◌, Option, Result, Ok, Err, IfOk, IfSome, codes}
 use Rattle.serde_json.specs.Data.{Data}
 use Rattle.machines.specs.declared.arch.Arch.{Arch}
+use Rattle.machines.specs.declared.arch.Family.{Family}
+use Rattle.machines.specs.declared.arch.Family.TheVariants.{Chosen, Whole}
+use Rattle.machines.specs.Arch.{family_of}
 use Rattle.bpf_insn.specs.Bytes.{insns_of}
 use Rattle.kernel_check.specs.Accepted.{IsAccepted}
 use Rattle.profile.specs.Policy.{Policy}
@@ -15,13 +18,14 @@ use Rattle.cert_check.specs.declared.fault.CheckError.TheVariants as error
 use Rattle.cert_check.specs.Certified.{IsFirst, Kept}
 use Rattle.cert_check.specs.Fault.{text_of as error_text}
 use Rattle.cert_check.specs.Right.{IsRight}
+use Rattle.cert_work.specs.Work.{IsWithin}
 use Rattle.texts.specs.Failures.{Failures}
 use Rattle.texts.specs.Sink.{Writes}
 use Rattle.texts.specs.declared.streams.fault.WriteFault.{WriteFault}
 use Rattle.texts.specs.declared.streams.fault.WriteFault.TheVariants.{Write, OutOfMemory}
 use Rattle.texts.specs.Lines.{line_feed}
 use Rattle.maker.specs.declared.check.Finding.{Finding}
-use Rattle.maker.specs.declared.check.Finding.TheVariants.{Yes, No, NoProfile}
+use Rattle.maker.specs.declared.check.Finding.TheVariants.{Yes, No, NoProfile, TooLarge}
 
 -- the text of these bytes is a bundle that means the profile
 abbrev pub IsBundle : Arch → List ℕ → Policy → Type 0
@@ -38,12 +42,33 @@ abbrev pub IsJudged : Policy → List ℕ → List ℕ → Finding → Type 0
 IsJudged policy filter cert Yes = IsYes policy filter cert
 IsJudged policy filter cert (No e) = (e ≢ error.OutOfMemory) × IsFirst policy filter cert e
 IsJudged policy filter cert (NoProfile e) = ⊥
+IsJudged policy filter cert TooLarge = ⊥
 
--- Yes and No are said beside the profile that the bundle means. NoProfile names a fault of the bundle.
+-- Whether the certificate's work is within its limit. With the machines of the chosen lists it has none.
+abbrev pub IsLightIn : Family → Policy → List ℕ → Type 0
+IsLightIn Chosen policy cert = ⊤
+IsLightIn Whole policy cert = IsWithin policy cert
+
+abbrev pub IsLight : Arch → Policy → List ℕ → Type 0
+IsLight native policy cert = IsLightIn (family_of native) policy cert
+
+-- Yes and No are said beside the profile that the bundle means, and TooLarge of the certificate. NoProfile names a fault of the bundle.
 abbrev pub IsFinding : Arch → List ℕ → List ℕ → List ℕ → Finding → Type 0
 IsFinding native bundle filter cert Yes = (policy : Policy) × IsBundle native bundle policy × IsJudged policy filter cert Yes
 IsFinding native bundle filter cert (No e) = (policy : Policy) × IsBundle native bundle policy × IsJudged policy filter cert (No e)
 IsFinding native bundle filter cert (NoProfile e) = (e ≢ refusal.OutOfMemory) × IfSome (fault_of e) (Breaks bundle native)
+IsFinding native bundle filter cert TooLarge = (policy : Policy) × IsBundle native bundle policy × (IsLight native policy cert → ⊥)
+
+-- of whose certificate it is so, beside the profile that the bundle means
+abbrev pub IsLightBeside : Arch → List ℕ → List ℕ → Type 0
+IsLightBeside native bundle cert = (policy : Policy) × IsBundle native bundle policy × IsLight native policy cert
+
+-- Yes and No are told of no other certificate.
+abbrev pub IsInLimit : Arch → List ℕ → List ℕ → Finding → Type 0
+IsInLimit native bundle cert Yes = IsLightBeside native bundle cert
+IsInLimit native bundle cert (No e) = IsLightBeside native bundle cert
+IsInLimit native bundle cert (NoProfile e) = ⊤
+IsInLimit native bundle cert TooLarge = ⊤
 
 abbrev pub is_yes : Finding → Bool
 is_yes Yes = true
@@ -54,6 +79,7 @@ abbrev pub text_of : Finding → List ℕ
 text_of Yes = codes "yes"
 text_of (No e) = codes "no " ++ error_text e
 text_of (NoProfile e) = codes "refused profile " ++ refusal_text e
+text_of TooLarge = codes "refused check 1 TooLarge"
 
 -- the line that says it
 abbrev pub line_of : Finding → List ℕ
@@ -64,6 +90,7 @@ pub record TellsFinding {S : Type 0} (held : S → Option (List ℕ)) (failures 
     (bundle filter cert : List ℕ) (result : Result Bool WriteFault) : Type 0 where
   pub finding : Finding
   pub stands : IsFinding native bundle filter cert finding
+  pub limit : IsInLimit native bundle cert finding
   pub written : Writes held failures old new (line_of finding) result
   pub told : IfOk result (λ yes. yes ≡ is_yes finding)
 
@@ -76,8 +103,8 @@ WritesFinding held failures old new native bundle filter cert (Err (Write out)) 
     TellsFinding held failures old new native bundle filter cert (Err (Write out))
 WritesFinding held failures old new native bundle filter cert (Err OutOfMemory) = new ≡ old
 
--- Only one of the three stands. A yes leaves no fault of the bundle and no broken rule, and a bundle that means a profile has
--- no fault.
+-- Only one of Yes, No and NoProfile stands. A yes leaves no fault of the bundle and no broken rule, and a bundle that means a profile has
+-- no fault. TooLarge is told of such a bundle alone, and of no certificate within its limit.
 pub record FindingsExclude : Type 0 where
   pub yes_no : (native : Arch) (bundle filter cert : List ℕ) (e : CheckError)
       → IsFinding native bundle filter cert Yes → IsFinding native bundle filter cert (No e) → ⊥
@@ -85,3 +112,7 @@ pub record FindingsExclude : Type 0 where
       → IsFinding native bundle filter cert Yes → IsFinding native bundle filter cert (NoProfile e) → ⊥
   pub no_refused : (native : Arch) (bundle filter cert : List ℕ) (e : CheckError) (f : ProfileError)
       → IsFinding native bundle filter cert (No e) → IsFinding native bundle filter cert (NoProfile f) → ⊥
+  pub large_refused : (native : Arch) (bundle filter cert : List ℕ) (f : ProfileError)
+      → IsFinding native bundle filter cert TooLarge → IsFinding native bundle filter cert (NoProfile f) → ⊥
+  pub large_light : (native : Arch) (bundle filter cert : List ℕ)
+      → IsFinding native bundle filter cert TooLarge → IsLightBeside native bundle cert → ⊥

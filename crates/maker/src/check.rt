@@ -3,9 +3,11 @@ ghost use Rattle.std.specs.Prelude.{◌≡◌, ◌≢◌, ◌↔◌, IsTrue, IfE
 ghost use Rattle.cert_check.specs.declared.fault.CheckError.TheVariants as fault;
 ghost use Rattle.profile_json.specs.declared.fault.ProfileError.TheVariants as refusal;
 ghost use Rattle.maker.specs.declared.check.Finding.TheVariants.{NoProfile};
-ghost use Rattle.maker.specs.Finding.{IsFinding, IsJudged, WritesFinding};
+ghost use Rattle.maker.specs.Finding.{IsFinding, IsInLimit, IsJudged, IsLight, WritesFinding};
 
 use cert_check::{CheckError, check};
+use cert_work::is_within;
+use machines::{Arch, Family};
 use profile::Profile;
 use profile_json::{Document, ProfileError};
 use std::alloc::{AllocError, Global};
@@ -21,6 +23,8 @@ pub enum Finding {
     No(CheckError),
     /// The bundle is refused.
     NoProfile(ProfileError),
+    /// The certificate has more work than one may have.
+    TooLarge,
 }
 
 impl fmt::Display for Finding {
@@ -34,6 +38,7 @@ impl fmt::Display for Finding {
             Finding::Yes => write!(f, "yes"),
             Finding::No(error) => write!(f, "no {error}"),
             Finding::NoProfile(error) => write!(f, "refused profile {error}"),
+            Finding::TooLarge => write!(f, "refused check 1 TooLarge"),
         }
     }
 }
@@ -56,6 +61,16 @@ fn lacks_memory_to_check(error: CheckError) -> bool
     matches!(error, CheckError::OutOfMemory)
 }
 
+// Whether a certificate's work is within its limit. With the machines of the chosen lists it has none.
+fn is_light(alloc: Global, native: Arch, profile: &Profile, cert: &[u8]) -> Result<bool, AllocError>
+    ensures { IfOk result (λ light. IsTrue light ↔ IsLight native profile.now cert.now) }
+{
+    match native.family() {
+        Family::Chosen => Ok(true),
+        Family::Whole => is_within(alloc, profile, cert),
+    }
+}
+
 // What is found of a filter and a certificate beside a profile.
 fn judged<'a>(
     alloc: Global,
@@ -76,19 +91,29 @@ fn judged<'a>(
     }
 }
 
-/// What is found of a bundle, of the bytes of a filter and of a certificate. The bundle is judged first.
+/// What is found of a bundle, of the bytes of a filter and of a certificate. The bundle is judged first, and then how much work the
+/// certificate has.
 pub fn finding_of(
     alloc: Global,
     document: &Document,
     filter: &[u8],
     cert: &[u8],
 ) -> Result<Finding, AllocError>
-    ensures { IfOk result (IsFinding document.now.native document.now.bytes filter.now cert.now) }
+    ensures found { IfOk result (IsFinding document.now.native document.now.bytes filter.now cert.now) }
+    // No certificate beyond its limit is told yes or no.
+    ensures limit { IfOk result (IsInLimit document.now.native document.now.bytes cert.now) }
 {
-    match document.bundle() {
-        Ok(bundle) => judged(alloc, &bundle.profile, filter, cert),
-        Err(error) => refused(error),
+    let bundle = match document.bundle() {
+        Ok(bundle) => bundle,
+        Err(error) => return refused(error),
+    };
+    let Ok(light) = is_light(alloc, document.native(), &bundle.profile, cert) else {
+        return Err(AllocError);
+    };
+    if !light {
+        return Ok(Finding::TooLarge);
     }
+    judged(alloc, &bundle.profile, filter, cert)
 }
 
 /// Writes the line for a bundle, the bytes of a filter and of a certificate. It is true of a yes. Where memory is refused, nothing is
