@@ -10,19 +10,21 @@ use Rattle.std.proofs.Math.Seq.{drop-cons}
 use Rattle.machines.specs.declared.arch.Family.{Family}
 use Rattle.profile.specs.declared.rules.Rule.{Rule}
 use Rattle.profile.specs.Policy.{Policy}
-use Rattle.explain.specs.Audit.{MayBe, audit_text, count_others, event_lines, is_same, lines_behind, listed, may_be, others_line, unread_line}
+use Rattle.explain.specs.Audit.{MayBe, audit_text, count_others, event_lines, further_line, is_same, lines_behind, listed, may_be, others_line, unread_line}
 use Rattle.explain.specs.declared.audited.event.Event.{Event}
 
 -- the lines of those that are left are those of the next one, and of those behind it
-pub lines_step : (family : Family) (p : Policy) (rules : List Rule) (ends : List ℕ) (all xs : List Event) (i : ℕ) (d : Event) → i < length xs
-    → lines_behind family p rules ends all (take i xs) (drop i xs)
-    ≡ event_lines family p rules ends all (take i xs) (get_or xs i d)
-    ++ lines_behind family p rules ends all (take (i + 1) xs) (drop (i + 1) xs)
-lines_step family p rules ends all xs i d below =
+pub lines_step : (family : Family) (p : Policy) (rules : List Rule) (ends : List ℕ) (all : List Event)
+    (origins : List (Event × List ℕ)) (xs : List Event) (i : ℕ) (d : Event) → i < length xs
+    → lines_behind family p rules ends all origins (take i xs) (drop i xs)
+    ≡ event_lines family p rules ends all origins (take i xs) (get_or xs i d)
+    ++ lines_behind family p rules ends all origins (take (i + 1) xs) (drop (i + 1) xs)
+lines_step family p rules ends all origins xs i d below =
     let x = get_or xs i d in
     let rest : drop i xs ≡ x ∷ drop (i + 1) xs = drop-cons xs i d below ∙ ap (λ (k : ℕ). x ∷ drop k xs) (sym (add-one i)) in
-    ap (lines_behind family p rules ends all (take i xs)) rest
-    ∙ ap (λ (before : List Event). event_lines family p rules ends all (take i xs) x ++ lines_behind family p rules ends all before (drop (i + 1) xs))
+    let now = event_lines family p rules ends all origins (take i xs) x in
+    ap (lines_behind family p rules ends all origins (take i xs)) rest
+    ∙ ap (λ (before : List Event). now ++ lines_behind family p rules ends all origins before (drop (i + 1) xs))
     (sym (take_more xs i d below))
 
 -- it is done just where the profile may answer so to each, and each line is read
@@ -47,27 +49,34 @@ nothing_is events unread h =
     let both = and_parts (length events == 0) (unread == 0) h in
     (nil_from_length events (eqb-true (length events) 0 both.0), eqb-true unread 0 both.1)
 
--- what is told in four parts
-pub told_four : (old one two three a b c d : List ℕ) → one ≡ old ++ a → two ≡ one ++ b → three ≡ two ++ c → three ++ d ≡ old ++ (a ++ b ++ c ++ d)
-told_four old one two three a b c d e f g =
-    ap (λ (l : List ℕ). l ++ d) (g ∙ ap (λ (l : List ℕ). l ++ c) (f ∙ ap (λ (l : List ℕ). l ++ b) e)) ∙ simp append_assoc
+-- what is told in five parts
+pub told_five : (old one two three four a b c d k : List ℕ) → one ≡ old ++ a → two ≡ one ++ b → three ≡ two ++ c → four ≡ three ++ d
+    → four ++ k ≡ old ++ (a ++ b ++ c ++ d ++ k)
+told_five old one two three four a b c d k e f g h =
+    ap (λ (l : List ℕ). l ++ k)
+    (h ∙ ap (λ (l : List ℕ). l ++ d) (g ∙ ap (λ (l : List ℕ). l ++ c) (f ∙ ap (λ (l : List ℕ). l ++ b) e)))
+    ∙ simp append_assoc
 
--- the lines of those that are listed, how many lines tell others, and how many are not read
-pub whole_text : (family : Family) (p : Policy) (rules : List Rule) (ends : List ℕ) (events firsts seconds : List Event) (unread n : ℕ)
-    (new last put old : List ℕ) → new ≡ last ++ unread_line unread → last ≡ put ++ others_line n
+-- the lines of those that are listed, how many lines tell others, how many other processes, and how many are not read
+pub whole_text : (family : Family) (p : Policy) (rules : List Rule) (ends : List ℕ) (events : List Event) (origins : List (Event × List ℕ))
+    (firsts seconds : List Event) (further unread n : ℕ) (new behind last put old : List ℕ) → new ≡ behind ++ unread_line unread
+    → behind ≡ last ++ further_line further → last ≡ put ++ others_line n
     → n ≡ count_by (λ e. not (list_any (λ b. is_same b e) seconds)) events → seconds ≡ listed events
-    → put ≡ old ++ lines_behind family p rules ends events [] firsts → firsts ≡ listed events → old ≡ []
-    → new ≡ audit_text family p rules ends events unread
-whole_text family p rules ends events firsts seconds unread n new last put old new_is last_is count_is seconds_are put_is firsts_are nothing =
-    let lines = lines_behind family p rules ends events [] (listed events) in
+    → put ≡ old ++ lines_behind family p rules ends events origins [] firsts → firsts ≡ listed events → old ≡ []
+    → new ≡ audit_text family p rules ends events origins further unread
+whole_text family p rules ends events origins firsts seconds further unread n new behind last put old
+    new_is behind_is last_is count_is seconds_are put_is firsts_are nothing =
+    let lines = lines_behind family p rules ends events origins [] (listed events) in
     let front : put ≡ lines =
-    put_is ∙ ap (λ (o : List ℕ). o ++ lines_behind family p rules ends events [] firsts) nothing
-    ∙ ap (lines_behind family p rules ends events []) firsts_are in
+    put_is ∙ ap (λ (o : List ℕ). o ++ lines_behind family p rules ends events origins [] firsts) nothing
+    ∙ ap (lines_behind family p rules ends events origins []) firsts_are in
     let many : n ≡ count_others events =
     count_is ∙ ap (λ (l : List Event). count_by (λ e. not (list_any (λ b. is_same b e) l)) events) seconds_are in
+    let others : last ≡ lines ++ others_line (count_others events) =
+    last_is ∙ ap (λ (l : List ℕ). l ++ others_line n) front ∙ ap (λ (k : ℕ). lines ++ others_line k) many in
     new_is
-    ∙ ap (λ (l : List ℕ). l ++ unread_line unread)
-    (last_is ∙ ap (λ (l : List ℕ). l ++ others_line n) front ∙ ap (λ (k : ℕ). lines ++ others_line k) many)
+    ∙ ap (λ (l : List ℕ). l ++ unread_line unread) (behind_is ∙ ap (λ (l : List ℕ). l ++ further_line further) others)
+    ∙ simp append_assoc
 
 -- a line in two parts
 pub told_two : (old one a b c d : List ℕ) → one ≡ old ++ (a ++ b ++ c) → one ++ d ≡ old ++ (a ++ b ++ c ++ d)

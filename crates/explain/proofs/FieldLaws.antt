@@ -12,7 +12,8 @@ use Rattle.texts.specs.Lines.{space}
 use Rattle.texts.specs.Splits.{behind, split_at}
 use Rattle.texts.proofs.Splits.{Lacks, behind_absent, split_at_first, split_at_sound}
 use Rattle.wording.proofs.Splits.{cuts}
-use Rattle.explain.specs.Audit.{last_behind, text_of, words_on}
+use Rattle.explain.specs.Audit.{last_behind, words_on}
+use Rattle.explain.specs.Naming.{text_of}
 
 abbrev texts_now : Option (Bor (List ℕ) × Bor (List ℕ)) → Option (List ℕ × List ℕ)
 texts_now r = option_map (λ parts. (parts.0.now, parts.1.now)) r

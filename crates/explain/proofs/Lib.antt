@@ -6,3 +6,4 @@ mod WhatLaws
 mod FieldLaws
 mod EventLaws
 mod AuditLaws
+mod OriginLaws

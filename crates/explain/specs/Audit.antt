@@ -2,9 +2,9 @@
 use Rattle.std.specs.Prelude.{ℕ, ◌≡◌, ◌≢◌, ◌⊎◌, ◌==◌, ◌-◌, ◌^◌, ◌&&◌, ◌||◌, nat_lt, not, Bool, true, false, if◌then◌else◌, List, [], ◌∷◌}
 use Rattle.std.specs.Prelude.{◌++◌, Option, Some, None, codes, count_by, filter_map, is_none, is_some, length, map, option_and_then, take}
 use Rattle.std.specs.Fmt.{decimal}
-use Rattle.std.specs.List.{All, list_any, slice_split}
+use Rattle.std.specs.List.{All, flat_map, fold, list_any, slice_split}
 use Rattle.std.specs.Option.{option_map, option_or}
-use Rattle.std.specs.Str.{bytes_eq, is_utf8}
+use Rattle.std.specs.Str.{bytes_eq}
 use Rattle.texts.specs.Lines.{line_feed, space}
 use Rattle.texts.specs.Numbers.{decimal_at, hexadecimal_at}
 use Rattle.texts.specs.Splits.{behind, split_at}
@@ -24,6 +24,7 @@ use Rattle.wording.specs.Understood.{IsReadAs}
 use Rattle.wording.specs.declared.told.Told.{Told}
 use Rattle.explain.specs.Answers.{may_answer}
 use Rattle.explain.specs.Any.{said_lines}
+use Rattle.explain.specs.Naming.{naming, text_of}
 use Rattle.explain.specs.Signs.{is_doubled, is_marked, signs_of}
 use Rattle.explain.specs.declared.audited.signs.Signs.{Signs}
 use Rattle.explain.specs.declared.audited.event.Answer.{Answer}
@@ -174,9 +175,6 @@ answer_in text = option_or (written_code text) (action_named text)
 
 -- ---- what a line tells
 
-abbrev pub text_of : List ℕ → Option (List ℕ)
-text_of value = if is_utf8 value then Some value else None
-
 -- the value of a field, if it is UTF-8
 unfoldable pub text_on : List ℕ → List ℕ → Option (List ℕ)
 text_on key line = option_and_then text_of (value_of key line)
@@ -220,6 +218,12 @@ events_in text = filter_map event_in (lines_of text)
 abbrev pub count_unread : List ℕ → ℕ
 count_unread text = count_by is_unread (lines_of text)
 
+-- ---- which process it names
+
+-- what the words of a line tell of the process, in their order
+abbrev pub process_on : List ℕ → List ℕ
+process_on line = flat_map naming (words_on line)
+
 -- ---- what a profile says of it
 
 -- the profile may answer so to the call. A kernel writes the action without its data.
@@ -258,6 +262,41 @@ listed events = take 1024 (firsts_behind [] events)
 abbrev pub count_others : List Event → ℕ
 count_others events = count_by (λ e. not (list_any (λ b. is_same b e) (listed events))) events
 
+-- ---- which processes they are of
+
+-- it is this answer to this call, of this process
+abbrev pub is_origin : Event → List ℕ → Event × List ℕ → Bool
+is_origin e process origin = is_same e origin.0 && bytes_eq process origin.1
+
+abbrev pub has_origin : List (Event × List ℕ) → Event → List ℕ → Bool
+has_origin origins e process = list_any (is_origin e process) origins
+
+-- 16 processes have the answer
+abbrev pub is_full : List (Event × List ℕ) → Event → Bool
+is_full origins e = nat_lt 15 (count_by (λ origin. is_same e origin.0) origins)
+
+abbrev pub with_origin : List (Event × List ℕ) → Event → List ℕ → List (Event × List ℕ)
+with_origin origins e process = if has_origin origins e process || is_full origins e then origins else origins ++ (e, process) ∷ []
+
+abbrev pub with_told : List (Event × List ℕ) → Option Event → List ℕ → List (Event × List ℕ)
+with_told origins None process = origins
+with_told origins (Some e) process = with_origin origins e process
+
+abbrev pub with_line : List (Event × List ℕ) → List ℕ → List (Event × List ℕ)
+with_line origins line = with_told origins (event_in line) (process_on line)
+
+-- the processes of each event, in the order of their first lines: 16 of an event at most
+abbrev pub origins_in : List ℕ → List (Event × List ℕ)
+origins_in text = fold with_line [] (lines_of text)
+
+abbrev pub is_other : List (Event × List ℕ) → Option Event → List ℕ → Bool
+is_other origins None process = false
+is_other origins (Some e) process = not (has_origin origins e process)
+
+-- how many lines tell events of other processes
+abbrev pub count_of_others : List (Event × List ℕ) → List ℕ → ℕ
+count_of_others origins text = count_by (λ line. is_other origins (event_in line) (process_on line)) (lines_of text)
+
 -- ---- how they are told
 
 abbrev pub answer_line : Answer → List ℕ
@@ -267,6 +306,17 @@ answer_line Kill = codes "kill KILL_PROCESS or KILL_THREAD" ++ line_feed ∷ []
 -- how many lines tell it, and the answer
 abbrev pub times_line : List Event → Event → List ℕ
 times_line all e = codes "told " ++ decimal (count_by (is_same e) all) ++ codes " times, code " ++ answer_line e.answer
+
+-- a process, if its line names one
+abbrev pub process_line : List ℕ → List ℕ
+process_line process = if length process == 0 then [] else codes "process" ++ process ++ line_feed ∷ []
+
+abbrev pub origin_line : Event → Event × List ℕ → List ℕ
+origin_line e origin = if is_same e origin.0 then process_line origin.1 else []
+
+-- the processes of an event
+abbrev pub origin_lines : List (Event × List ℕ) → Event → List ℕ
+origin_lines origins e = flat_map (origin_line e) origins
 
 abbrev pub may_line : Bool → List ℕ
 may_line may =
@@ -282,26 +332,33 @@ entries_lines p rules ends before e =
     if list_any (λ b. is_of_call b e) before then codes "entries as above" ++ line_feed ∷ [] else said_lines p rules ends e.token e.nr
 
 -- an event behind these
-abbrev pub event_lines : Family → Policy → List Rule → List ℕ → List Event → List Event → Event → List ℕ
-event_lines family p rules ends all before e =
-    call_on (machine_with family e.token e.nr) e.token e.nr ++ times_line all e ++ may_line (may_be p e)
+abbrev pub event_lines : Family → Policy → List Rule → List ℕ → List Event → List (Event × List ℕ) → List Event → Event → List ℕ
+event_lines family p rules ends all origins before e =
+    call_on (machine_with family e.token e.nr) e.token e.nr ++ times_line all e ++ origin_lines origins e ++ may_line (may_be p e)
     ++ entries_lines p rules ends before e
 
 -- these events of all, behind others of them
-abbrev pub lines_behind : Family → Policy → List Rule → List ℕ → List Event → List Event → List Event → List ℕ
-lines_behind family p rules ends all before [] = []
-lines_behind family p rules ends all before (e ∷ es) =
-    event_lines family p rules ends all before e ++ lines_behind family p rules ends all (before ++ e ∷ []) es
+abbrev pub lines_behind : Family → Policy → List Rule → List ℕ → List Event → List (Event × List ℕ) → List Event → List Event → List ℕ
+lines_behind family p rules ends all origins before [] = []
+lines_behind family p rules ends all origins before (e ∷ es) =
+    event_lines family p rules ends all origins before e ++ lines_behind family p rules ends all origins (before ++ e ∷ []) es
+
+abbrev pub counted : ℕ → List ℕ → List ℕ
+counted n what = if n == 0 then [] else what ++ decimal n ++ line_feed ∷ []
 
 abbrev pub others_line : ℕ → List ℕ
-others_line n = if n == 0 then [] else codes "more lines that tell others: " ++ decimal n ++ line_feed ∷ []
+others_line n = counted n (codes "more lines that tell others: ")
+
+abbrev pub further_line : ℕ → List ℕ
+further_line n = counted n (codes "more lines of other processes: ")
 
 abbrev pub unread_line : ℕ → List ℕ
-unread_line n = if n == 0 then [] else codes "lines of filters that are not read: " ++ decimal n ++ line_feed ∷ []
+unread_line n = counted n (codes "lines of filters that are not read: ")
 
-abbrev pub audit_text : Family → Policy → List Rule → List ℕ → List Event → ℕ → List ℕ
-audit_text family p rules ends events unread =
-    lines_behind family p rules ends events [] (listed events) ++ others_line (count_others events) ++ unread_line unread
+abbrev pub audit_text : Family → Policy → List Rule → List ℕ → List Event → List (Event × List ℕ) → ℕ → ℕ → List ℕ
+audit_text family p rules ends events origins further unread =
+    lines_behind family p rules ends events origins [] (listed events) ++ others_line (count_others events) ++ further_line further
+    ++ unread_line unread
 
 -- ---- what is answered
 
@@ -311,15 +368,16 @@ pub record RefusesLines (events : List Event) (unread : ℕ) (told : Told) : Typ
   pub all_read : unread ≡ 0
   pub tells : RefusesBy (codes "refused lines: none has arch, syscall and code") told
 
--- Each event is told once. It is done if the profile may answer so to each and each line is read, and no otherwise.
-pub record TellsEvents (family : Family) (p : Policy) (rules : List Rule) (ends : List ℕ) (events : List Event) (unread : ℕ)
-    (told : Told) : Type 0 where
+-- Each event is told once, with its processes. It is done if the profile may answer so to each and each line is read, and no otherwise.
+pub record TellsEvents (family : Family) (p : Policy) (rules : List Rule) (ends : List ℕ) (events : List Event)
+    (origins : List (Event × List ℕ)) (further unread : ℕ) (told : Told) : Type 0 where
   pub some : (events ≢ []) ⊎ (unread ≢ 0)
-  pub tells : told.bytes.items ≡ audit_text family p rules ends events unread
+  pub tells : told.bytes.items ≡ audit_text family p rules ends events origins further unread
   pub end_is : EndsBy (All (MayBe p) events × (unread ≡ 0)) told.end
 
-abbrev pub AnswersEvents : Family → Policy → List Rule → List ℕ → List Event → ℕ → Told → Type 0
-AnswersEvents family p rules ends events unread told = RefusesLines events unread told ⊎ TellsEvents family p rules ends events unread told
+abbrev pub AnswersEvents : Family → Policy → List Rule → List ℕ → List Event → List (Event × List ℕ) → ℕ → ℕ → Told → Type 0
+AnswersEvents family p rules ends events origins further unread told =
+    RefusesLines events unread told ⊎ TellsEvents family p rules ends events origins further unread told
 
 -- the profile that the bundle means was asked about the events that the lines tell
 pub record AsksBundle (native : Arch) (bundle lines : List ℕ) (told : Told) : Type 0 where
@@ -327,7 +385,8 @@ pub record AsksBundle (native : Arch) (bundle lines : List ℕ) (told : Told) : 
   pub rules : List Rule
   pub ends : List ℕ
   pub read : IsReadAs native bundle policy rules ends
-  pub answers : AnswersEvents (family_of native) policy rules ends (events_in lines) (count_unread lines) told
+  pub answers : AnswersEvents (family_of native) policy rules ends (events_in lines) (origins_in lines)
+      (count_of_others (origins_in lines) lines) (count_unread lines) told
 
 abbrev pub IsAudited : Arch → List ℕ → List ℕ → Told → Type 0
 IsAudited native bundle lines told = RefusesBundle native bundle told ⊎ AsksBundle native bundle lines told

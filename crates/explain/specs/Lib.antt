@@ -5,5 +5,6 @@ pub mod Told
 pub mod Any
 pub mod Answers
 pub mod Signs
+pub mod Naming
 pub mod Audit
 pub mod inner

@@ -7,6 +7,8 @@ mod events;
 mod fields;
 mod lines;
 mod named;
+mod naming;
+mod origins;
 mod signs;
 mod what;
 

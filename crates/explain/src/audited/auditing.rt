@@ -1,10 +1,11 @@
 //! What a bundle says of the lines of a kernel's audit.
-ghost use Rattle.std.specs.Prelude.{◌≡◌, ◌++◌, ◌∷◌, ◌==◌, ◌&&◌, [], IfErr, IfOk, IfSome, codes, length, string_bytes};
+ghost use Rattle.std.specs.Prelude.{◌≡◌, ◌++◌, ◌∷◌, ◌==◌, ◌&&◌, [], IfErr, IfOk, IfSome, codes, length, map, string_bytes};
 ghost use Rattle.std.specs.Fmt.{decimal};
 ghost use Rattle.std.specs.List.{list_all};
 ghost use Rattle.texts.specs.Lines.{line_feed};
 ghost use Rattle.wording.specs.Phrases.{action_text, hexadecimal};
 ghost use Rattle.explain.specs.Audit as spec;
+ghost use Rattle.explain.specs.inner.Origins.{origin_of};
 ghost use Rattle.explain.specs.inner.Times.{counted_line};
 ghost use Rattle.profile_json.specs.Breaks.{Breaks};
 ghost use Rattle.profile_json.specs.Fault.{fault_of};
@@ -15,6 +16,7 @@ use crate::audited::events::{
     all_may_be, count_of, count_others, count_unread, events_in, has_call, listed, may_be,
 };
 use crate::audited::lines::{put_number, put_said};
+use crate::audited::origins::{Origin, count_others_in, origins_in, put_origins};
 use call_record::Word;
 use machines::{Arch, Family};
 use profile::Profile;
@@ -108,14 +110,16 @@ fn put_event(
     profile: &Profile,
     all: &EntryRules,
     events: &[Event],
+    origins: &[Origin],
     before: &[Event],
     event: &Event,
 ) -> Result<(), AllocError>
     ensures { IfOk result (λ _. string_bytes text.new ≡ string_bytes text.old
-        ++ spec.event_lines family profile.now all.now.rules.items all.now.ends.items events.now before.now event.now) }
+        ++ spec.event_lines family profile.now all.now.rules.items all.now.ends.items events.now (map origin_of origins.now) before.now event.now) }
 {
     put_number(text, family, event.token, event.nr)?;
     put_times(text, events, event)?;
+    put_origins(text, origins, event)?;
     put_may(text, may_be(profile, *event))?;
     put_entries(text, profile, all, before, event)
 }
@@ -127,14 +131,15 @@ fn put_events(
     profile: &Profile,
     all: &EntryRules,
     events: &[Event],
+    origins: &[Origin],
     firsts: &[Event],
 ) -> Result<(), AllocError>
     ensures { IfOk result (λ _. string_bytes text.new ≡ string_bytes text.old
-        ++ spec.lines_behind family profile.now all.now.rules.items all.now.ends.items events.now [] firsts.now) }
+        ++ spec.lines_behind family profile.now all.now.rules.items all.now.ends.items events.now (map origin_of origins.now) [] firsts.now) }
 {
     for (place, event) in firsts.iter().enumerate() {
         let before = &firsts[..place];
-        put_event(text, family, profile, all, events, before, event)?;
+        put_event(text, family, profile, all, events, origins, before, event)?;
     }
     Ok(())
 }
@@ -149,6 +154,16 @@ fn put_others(text: &mut String, others: usize) -> Result<(), AllocError>
     writeln!(text, "more lines that tell others: {others}")
 }
 
+// Adds how many lines tell of processes that are not listed, if there are some.
+fn put_further(text: &mut String, further: usize) -> Result<(), AllocError>
+    ensures { IfOk result (λ _. string_bytes text.new ≡ string_bytes text.old ++ spec.further_line further) }
+{
+    if further == 0 {
+        return Ok(());
+    }
+    writeln!(text, "more lines of other processes: {further}")
+}
+
 // Adds how many lines are not read, if there are some.
 fn put_unread(text: &mut String, unread: usize) -> Result<(), AllocError>
     ensures { IfOk result (λ _. string_bytes text.new ≡ string_bytes text.old ++ spec.unread_line unread) }
@@ -159,22 +174,25 @@ fn put_unread(text: &mut String, unread: usize) -> Result<(), AllocError>
     writeln!(text, "lines of filters that are not read: {unread}")
 }
 
-// The text that a profile tells of events, and of how many lines are not read.
+// The text that a profile tells of events and their processes, and of how many lines are not read.
 fn text_of(
     alloc: Global,
     family: Family,
     profile: &Profile,
     all: &EntryRules,
     events: &[Event],
+    origins: &[Origin],
+    further: usize,
     unread: usize,
 ) -> Result<String, AllocError>
-    ensures { IfOk result (λ text. string_bytes text
-        ≡ spec.audit_text family profile.now all.now.rules.items all.now.ends.items events.now unread) }
+    ensures { IfOk result (λ text. string_bytes text ≡ spec.audit_text family profile.now all.now.rules.items all.now.ends.items
+        events.now (map origin_of origins.now) further unread) }
 {
     let firsts = listed(alloc, events)?;
     let mut text = String::new(alloc);
-    put_events(&mut text, family, profile, all, events, &firsts)?;
+    put_events(&mut text, family, profile, all, events, origins, &firsts)?;
     put_others(&mut text, count_others(&firsts, events))?;
+    put_further(&mut text, further)?;
     put_unread(&mut text, unread)?;
     Ok(text)
 }
@@ -209,21 +227,26 @@ fn is_done(profile: &Profile, events: &[Event], unread: usize) -> bool
     false
 }
 
-// What a profile says of events, beside which so many lines are not read.
+// What a profile says of events and their processes, beside which so many lines are not read.
 fn told_of(
     alloc: Global,
     family: Family,
     profile: &Profile,
     all: &EntryRules,
     events: &[Event],
+    origins: &[Origin],
+    further: usize,
     unread: usize,
 ) -> Result<Told, AllocError>
-    ensures { IfOk result (spec.AnswersEvents family profile.now all.now.rules.items all.now.ends.items events.now unread) }
+    ensures { IfOk result (spec.AnswersEvents family profile.now all.now.rules.items all.now.ends.items
+        events.now (map origin_of origins.now) further unread) }
 {
     if is_nothing(events, unread) {
         return no_event(alloc);
     }
-    let text = text_of(alloc, family, profile, all, events, unread)?;
+    let text = text_of(
+        alloc, family, profile, all, events, origins, further, unread,
+    )?;
     Ok(Told {
         bytes: text.into_bytes(),
         end: End::of(is_done(profile, events, unread)),
@@ -238,6 +261,8 @@ fn audited(alloc: Global, document: &Document, lines: &[u8]) -> Result<Told, Pro
 {
     let read = document.bundle()?;
     let events = events_in(alloc, lines)?;
+    let origins = origins_in(alloc, lines)?;
+    let further = count_others_in(alloc, &origins, lines)?;
     let unread = count_unread(lines);
     let told = told_of(
         alloc,
@@ -245,13 +270,15 @@ fn audited(alloc: Global, document: &Document, lines: &[u8]) -> Result<Told, Pro
         &read.profile,
         &read.by_entry,
         &events,
+        &origins,
+        further,
         unread,
     )?;
     Ok(told)
 }
 
 /// Tells what each call was that lines of a kernel's audit show, as dmesg, journald, auditd and `ausearch -i` write them. Also tells
-/// whether a bundle may answer so, and what the bundle says of it. It is done where the bundle may
+/// which processes they are of, whether a bundle may answer so, and what the bundle says of it. It is done where the bundle may
 /// answer so in each line of a filter's answer, and each is read.
 pub fn audit(alloc: Global, document: &Document, lines: &[u8]) -> Result<Told, AllocError>
     ensures { IfOk result (spec.IsAudited document.now.native document.now.bytes lines.now) }

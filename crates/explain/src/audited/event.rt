@@ -2,6 +2,7 @@
 ghost use Rattle.std.specs.Prelude.{◌≡◌};
 ghost use Rattle.std.specs.Option.{option_map};
 ghost use Rattle.explain.specs.Audit as spec;
+ghost use Rattle.explain.specs.Naming as naming;
 
 use crate::audited::fields::{has_fields, value};
 use crate::audited::named::{answer, call, token};
@@ -24,9 +25,9 @@ pub(crate) struct Event {
     pub(crate) answer: Answer,
 }
 
-// A value as text.
-fn text_of(value: &[u8]) -> Option<&str>
-    ensures { option_map (λ text. text.now) result ≡ spec.text_of value.now }
+/// A value as text.
+pub(crate) fn text_of(value: &[u8]) -> Option<&str>
+    ensures { option_map (λ text. text.now) result ≡ naming.text_of value.now }
 {
     match str::from_utf8(value) {
         Ok(text) => Some(text),

@@ -101,8 +101,8 @@ fn same_answer(a: Answer, b: Answer) -> bool
     }
 }
 
-// Whether two tell the same answer to the same call.
-fn is_same(a: &Event, b: &Event) -> bool
+/// Whether two tell the same answer to the same call.
+pub(crate) fn is_same(a: &Event, b: &Event) -> bool
     ensures { result ≡ spec.is_same a.now b.now }
 {
     if a.token != b.token {
