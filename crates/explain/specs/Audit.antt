@@ -271,27 +271,27 @@ is_origin e process origin = is_same e origin.0 && bytes_eq process origin.1
 abbrev pub has_origin : List (Event × List ℕ) → Event → List ℕ → Bool
 has_origin origins e process = list_any (is_origin e process) origins
 
--- 16 processes have the answer
+-- 16 processes have the answer, or there are 1024 of all answers
 abbrev pub is_full : List (Event × List ℕ) → Event → Bool
-is_full origins e = nat_lt 15 (count_by (λ origin. is_same e origin.0) origins)
+is_full origins e = nat_lt 1023 (length origins) || nat_lt 15 (count_by (λ origin. is_same e origin.0) origins)
 
 abbrev pub with_origin : List (Event × List ℕ) → Event → List ℕ → List (Event × List ℕ)
 with_origin origins e process = if has_origin origins e process || is_full origins e then origins else origins ++ (e, process) ∷ []
 
 abbrev pub with_told : List (Event × List ℕ) → Option Event → List ℕ → List (Event × List ℕ)
 with_told origins None process = origins
-with_told origins (Some e) process = with_origin origins e process
+with_told origins (Some e) process = if length process == 0 then origins else with_origin origins e process
 
 abbrev pub with_line : List (Event × List ℕ) → List ℕ → List (Event × List ℕ)
 with_line origins line = with_told origins (event_in line) (process_on line)
 
--- the processes of each event, in the order of their first lines: 16 of an event at most
+-- the processes that lines name of each event, in the order of their first lines
 abbrev pub origins_in : List ℕ → List (Event × List ℕ)
 origins_in text = fold with_line [] (lines_of text)
 
 abbrev pub is_other : List (Event × List ℕ) → Option Event → List ℕ → Bool
 is_other origins None process = false
-is_other origins (Some e) process = not (has_origin origins e process)
+is_other origins (Some e) process = if length process == 0 then false else not (has_origin origins e process)
 
 -- how many lines tell events of other processes
 abbrev pub count_of_others : List (Event × List ℕ) → List ℕ → ℕ
@@ -307,9 +307,8 @@ answer_line Kill = codes "kill KILL_PROCESS or KILL_THREAD" ++ line_feed ∷ []
 abbrev pub times_line : List Event → Event → List ℕ
 times_line all e = codes "told " ++ decimal (count_by (is_same e) all) ++ codes " times, code " ++ answer_line e.answer
 
--- a process, if its line names one
 abbrev pub process_line : List ℕ → List ℕ
-process_line process = if length process == 0 then [] else codes "process" ++ process ++ line_feed ∷ []
+process_line process = codes "process" ++ process ++ line_feed ∷ []
 
 abbrev pub origin_line : Event → Event × List ℕ → List ℕ
 origin_line e origin = if is_same e origin.0 then process_line origin.1 else []

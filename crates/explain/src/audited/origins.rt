@@ -11,8 +11,10 @@ use std::alloc::{AllocError, Global};
 use std::fmt::Write;
 use wording::split_line;
 
-// How many processes of an event are listed.
+// How many processes of an event are listed, and how many of all events.
 const MOST_OF_ONE: usize = 16;
+
+const MOST_LISTED: usize = 1024;
 
 /// An event, and a process that it is of.
 #[derive(Drop)]
@@ -61,6 +63,9 @@ fn count_of(origins: &[Origin], event: &Event) -> usize
 fn is_full(origins: &[Origin], event: &Event) -> bool
     ensures { result ≡ spec.is_full (map origin_of origins.now) event.now }
 {
+    if origins.len() >= MOST_LISTED {
+        return true;
+    }
     count_of(origins, event) >= MOST_OF_ONE
 }
 
@@ -79,13 +84,16 @@ fn put_origin(origins: &mut Vec<Origin>, event: Event, process: String) -> Resul
     Ok(())
 }
 
-// Adds the event of a line and its process, if the line tells one.
+// Adds the event of a line and its process, if the line tells both.
 fn put_line(alloc: Global, line: &[u8], origins: &mut Vec<Origin>) -> Result<(), AllocError>
     ensures { IfOk result (λ _. map origin_of origins.new.items ≡ spec.with_line (map origin_of origins.old.items) line.now) }
 {
     match event_in(line) {
         Some(event) => {
             let process = process_of(alloc, line)?;
+            if process.is_empty() {
+                return Ok(());
+            }
             put_origin(origins, event, process)
         }
         None => Ok(()),
@@ -113,6 +121,9 @@ fn is_other(alloc: Global, origins: &[Origin], line: &[u8]) -> Result<bool, Allo
     match event_in(line) {
         Some(event) => {
             let process = process_of(alloc, line)?;
+            if process.is_empty() {
+                return Ok(false);
+            }
             Ok(!has_origin(origins, &event, &process))
         }
         None => Ok(false),
@@ -148,13 +159,10 @@ pub(crate) fn count_others_in(
     Ok(count + last)
 }
 
-// Adds the line of a process, if it is named.
+// Adds the line of a process.
 fn put_process(text: &mut String, process: &str) -> Result<(), AllocError>
     ensures { IfOk result (λ _. string_bytes text.new ≡ string_bytes text.old ++ spec.process_line process.now) }
 {
-    if process.is_empty() {
-        return Ok(());
-    }
     writeln!(text, "process{process}")
 }
 
