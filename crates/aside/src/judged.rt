@@ -31,7 +31,7 @@ const MOST: u32 = 65;
 
 /// What is judged of a filter, and of which calls it is not.
 #[derive(Drop)]
-pub struct But {
+pub struct JudgedAside {
     pub aside: Vec<Calls>,
     pub judged: Judged,
 }
@@ -188,7 +188,7 @@ fn leave_more(
     behind: &Behind<'_>,
     aside: Vec<Calls>,
     calls: Calls,
-) -> Result<But, AllocError>
+) -> Result<JudgedAside, AllocError>
     requires behind { IsBehind filter.now behind.now.rest.now behind.now.answered.items }
     requires taken { AreTaken document.now.native document.now.bytes filter.now }
     ensures { (leave : TheLeave) → AreLeftOut document.now.native document.now.bytes filter.now leave aside.items
@@ -199,7 +199,7 @@ fn leave_more(
     let mut aside = aside;
     aside.push(calls)?;
     let judged = judge_left(alloc, document, filter, behind, &aside)?;
-    Ok(But { aside, judged })
+    Ok(JudgedAside { aside, judged })
 }
 
 /// What is judged of a filter behind a stub, beside a bundle, where calls may be left aside. It is judged
@@ -210,12 +210,12 @@ pub fn judge_but(
     filter: &[u8],
     behind: &Behind<'_>,
     leave: Leave,
-) -> Result<But, AllocError>
+) -> Result<JudgedAside, AllocError>
     requires { IsBehind filter.now behind.now.rest.now behind.now.answered.items }
     ensures { IfOk result (λ but. IsJudged document.now.native document.now.bytes filter.now behind.now.rest.now behind.now.answered.items leave
         but.aside.items but.judged.whole but.judged.evidence) }
 {
-    let mut but = But {
+    let mut but = JudgedAside {
         aside: Vec::new(alloc),
         judged: judge_behind(alloc, document, filter, behind),
     };

@@ -7,7 +7,7 @@
 //! `recovered` has the section for which a filter is right but for such calls, and which is judged so.
 #![tactic(auto)]
 
-mod found;
+mod counterexamples;
 mod front;
 mod judged;
 mod leave;
@@ -16,8 +16,8 @@ mod recovered;
 mod undecided;
 mod written;
 
-pub use found::counterexamples_but;
-pub use judged::{But, judge_but};
+pub use counterexamples::counterexamples_but;
+pub use judged::{JudgedAside, judge_but};
 pub use leave::Leave;
-pub use recovered::{Found, RecoveredBut, recover_but, recover_told};
+pub use recovered::{RecoveredBundle, RecoveredBut, recover_but, recover_told};
 pub use written::{write_but, write_found};

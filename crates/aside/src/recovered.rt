@@ -3,8 +3,8 @@
 //!
 //! A section is drafted that passes these calls over. None of that is trusted. It is judged with the filter, and handed out only if the
 //! filter is right but for the calls that are reported.
-mod found;
+mod recovering;
 mod told;
 
-pub use found::{Found, recover_but};
+pub use recovering::{RecoveredBundle, recover_but};
 pub use told::{RecoveredBut, recover_told};

@@ -13,7 +13,7 @@ ghost use Rattle.aside.specs.declared.leave.Leave.{Leave as TheLeave};
 ghost use Rattle.aside.specs.Judged.{IsJudged, IsJudgedBut, stub_calls};
 ghost use Rattle.aside.specs.Told.{AreFoundBut, CertifiesBut, WritesBut, but_text};
 
-use crate::judged::But;
+use crate::judged::JudgedAside;
 use compare::{Calls, calls_text, write_behind, write_counterexamples};
 use machines::{Arch, Family};
 use maker::{Counterexample, Evidence, refuse, write_judged};
@@ -50,7 +50,7 @@ fn write_yes<S: Sink>(
 fn write_evidence<S: Sink>(
     alloc: Global,
     family: Family,
-    but: &But,
+    but: &JudgedAside,
     evidence: &Evidence,
     sink: &mut S,
 ) -> Result<bool, WriteFault>
@@ -71,7 +71,7 @@ fn write_evidence<S: Sink>(
 fn write_aside<S: Sink>(
     alloc: Global,
     family: Family,
-    but: &But,
+    but: &JudgedAside,
     sink: &mut S,
 ) -> Result<bool, WriteFault>
     ensures but { (native : TheArch) (bundle filter : List ℕ) (answered : List TheCalls) → family ≡ family_of native
@@ -91,7 +91,7 @@ fn write_aside<S: Sink>(
 pub fn write_but<S: Sink>(
     alloc: Global,
     native: Arch,
-    but: &But,
+    but: &JudgedAside,
     sink: &mut S,
 ) -> Result<bool, WriteFault>
     ensures all { but.now.aside.items ≡ [] → (bundle filter rest : List ℕ) (answered : List TheCalls) → IsBehind filter rest answered
@@ -114,7 +114,7 @@ pub fn write_but<S: Sink>(
 pub fn write_found<S: Sink>(
     alloc: Global,
     native: Arch,
-    but: &But,
+    but: &JudgedAside,
     all: &[Counterexample],
     sink: &mut S,
 ) -> Result<bool, WriteFault>

@@ -15,7 +15,7 @@ use crate::comparing::{put_text, tell_found};
 use crate::files::{Files, read_document, read_filter};
 use crate::parts::{Parts, asks, leave_of};
 use crate::stops::Stop;
-use aside::{But, Leave, counterexamples_but, judge_but, write_found};
+use aside::{JudgedAside, Leave, counterexamples_but, judge_but, write_found};
 use compare::{Behind, behind_stub};
 use machines::Arch;
 use maker::Counterexample;
@@ -64,7 +64,7 @@ fn all_of(
     document: &Document,
     filter: &[u8],
     behind: &Behind<'_>,
-    but: &But,
+    but: &JudgedAside,
     all: bool,
 ) -> Result<Vec<Counterexample>, AllocError>
     requires { (leave : TheLeave) × IsJudged document.now.native document.now.bytes filter.now behind.now.rest.now behind.now.answered.items leave
@@ -91,7 +91,7 @@ fn tell<E: Sink>(
     alloc: Global,
     document: &Document,
     lines: String,
-    but: &But,
+    but: &JudgedAside,
     all: &[Counterexample],
     err: &mut E,
 ) {

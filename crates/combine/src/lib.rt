@@ -9,12 +9,12 @@
 mod combined;
 mod draft;
 mod product;
+mod refusal_text;
 mod stack;
-mod telling;
 mod uncombined;
 
 pub use combined::combine;
+pub use refusal_text::line_of;
 pub use stack::combine_filters;
-pub use telling::line_of;
 pub use together::Way;
 pub use uncombined::Uncombined;

@@ -1,11 +1,11 @@
 //! Two filters: calls of which they answer unlike verdicts, as far as some are found.
-mod asked;
 mod candidates;
 mod numbers;
 mod outcome;
 mod search;
 mod told;
 mod unlike;
+mod word_tests;
 
 pub(crate) use outcome::{Outcome, outcome_of};
 pub use search::find_differences;

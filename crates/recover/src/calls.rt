@@ -61,7 +61,7 @@ fn refuse_words(program: &Accepted<'_>, leaves: &[Leaf]) -> Result<(), Unsaid> {
 }
 
 // The leaves that have not all numbers of a word.
-fn telling(alloc: Global, leaves: &[Leaf], word: u8) -> Result<Vec<Leaf>, AllocError> {
+fn leaves_testing(alloc: Global, leaves: &[Leaf], word: u8) -> Result<Vec<Leaf>, AllocError> {
     let mut found = Vec::new(alloc);
     for leaf in leaves {
         if leaf.cell(word) != Cell::ALL {
@@ -79,7 +79,7 @@ fn two_apart(
     leaves: &[Leaf],
     word: u8,
 ) -> Result<Option<(Shown, Shown)>, Stopped> {
-    let found = telling(alloc, leaves, word)?;
+    let found = leaves_testing(alloc, leaves, word)?;
     let Some((one, other)) = apart(work, &found, word)? else {
         return Ok(None);
     };

@@ -5,7 +5,6 @@
 //! It is handed out only with a certificate that the filter answers what it says, to which the checker said yes.
 #![tactic(auto)]
 
-mod asked;
 mod calls;
 mod cells;
 mod classes;
@@ -23,19 +22,20 @@ mod passed;
 mod paths;
 mod pieces;
 mod recovered;
+mod refusal_text;
 mod said;
 mod seen;
 mod survey;
-mod telling;
 mod text;
 mod unlike;
 mod unrecovered;
 mod unsaid;
+mod word_test;
 mod work;
 
 pub use law::such_filters_are_no_bundles;
 pub use passed::Passed;
 pub use recovered::{draft_of, recover};
-pub use telling::line_of;
+pub use refusal_text::line_of;
 pub use unrecovered::Unrecovered;
 pub use unsaid::{Shown, Unsaid};

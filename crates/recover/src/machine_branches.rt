@@ -194,7 +194,7 @@ pub(crate) fn refuse_others(
         number: None,
     };
     let found = survey_of(alloc, work, program, known)?;
-    for cell in &cells_or_all(alloc, work, &found.asked, 1)? {
+    for cell in &cells_or_all(alloc, work, &found.word_tests, 1)? {
         if let Some(token) = unknown_in(family, *cell)
             && let Some(shown) = not_killed(alloc, work, program, token)?
         {

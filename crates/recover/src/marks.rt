@@ -1,6 +1,6 @@
 //! Sets of numbers of a word that a filter tells from all others.
-use crate::asked::Asked;
 use crate::cells::{Cell, push_others, push_under, push_within};
+use crate::word_test::WordTest;
 use crate::work::{Stopped, Work};
 use std::alloc::{AllocError, Global};
 
@@ -27,10 +27,10 @@ pub(crate) fn push_mark(work: &mut Work, marks: &mut Vec<Mark>, mark: Mark) -> R
 pub(crate) fn marks_of(
     alloc: Global,
     work: &mut Work,
-    asked: &[Asked],
+    word_tests: &[WordTest],
 ) -> Result<Vec<Mark>, Stopped> {
     let mut marks = Vec::new(alloc);
-    for one in asked {
+    for one in word_tests {
         let mut cells = Vec::new(alloc);
         one.push_taken(&mut cells, Cell::ALL)?;
         for cell in &cells {

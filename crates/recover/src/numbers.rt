@@ -1,8 +1,8 @@
 //! Numbers of calls without a name that stand for all.
-use crate::asked::Asked;
 use crate::cells::Cell;
 use crate::marks::{cells_of, marks_of};
 use crate::survey::{Known, survey_of};
+use crate::word_test::WordTest;
 use crate::work::{Stopped, Work};
 use call_tables::call_name;
 use kernel_check::Accepted;
@@ -44,17 +44,17 @@ pub(crate) fn number_cells(
         number: None,
     };
     let found = survey_of(alloc, work, program, known)?;
-    cells_or_all(alloc, work, &found.asked, 0)
+    cells_or_all(alloc, work, &found.word_tests, 0)
 }
 
 /// The cells of a word, or one of all numbers if these are too many.
 pub(crate) fn cells_or_all(
     alloc: Global,
     work: &mut Work,
-    asked: &[Asked],
+    word_tests: &[WordTest],
     word: u8,
 ) -> Result<Vec<Cell>, Stopped> {
-    let marks = marks_of(alloc, work, asked)?;
+    let marks = marks_of(alloc, work, word_tests)?;
     match cells_of(alloc, work, &marks, word)? {
         Some(cells) => Ok(cells),
         None => {

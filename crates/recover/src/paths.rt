@@ -1,8 +1,8 @@
 //! The paths of a filter on one call, whatever its arguments.
-use crate::asked::Asked;
 use crate::cells::Cell;
 use crate::leaves::{Called, Leaf};
 use crate::survey::{AT_START, behind};
+use crate::word_test::WordTest;
 use crate::work::{Stopped, Work};
 use bpf_insn::{Insn, Operand, Operation, Test};
 use cert_state::{AVal, Listed, Regs, transfer};
@@ -106,17 +106,17 @@ fn go_both(
     work: &mut Work,
     walk: &mut Walk,
     (taken, other): (Spot, Spot),
-    asked: Asked,
+    word_test: WordTest,
 ) -> Result<(), Stopped> {
-    let cell = taken.cell(asked.word);
+    let cell = taken.cell(word_test.word);
     let mut cells = Vec::new(alloc);
-    asked.push_taken(&mut cells, cell)?;
+    word_test.push_taken(&mut cells, cell)?;
     work.spend_each(cells.len().saturating_add(1), FORK)?;
-    walk.go_in(taken, asked.word, &cells)?;
+    walk.go_in(taken, word_test.word, &cells)?;
     let mut cells = Vec::new(alloc);
-    asked.push_other(&mut cells, cell)?;
+    word_test.push_other(&mut cells, cell)?;
     work.spend_each(cells.len().saturating_add(1), FORK)?;
-    walk.go_in(other, asked.word, &cells)?;
+    walk.go_in(other, word_test.word, &cells)?;
     Ok(())
 }
 
@@ -143,13 +143,19 @@ fn at_branch(
         walk.found.are_all = false;
         return Ok(false);
     };
-    let asked = Asked {
+    let word_test = WordTest {
         word,
         mask,
         test,
         number,
     };
-    go_both(alloc, work, walk, (spot.at(taken), spot.at(other)), asked)?;
+    go_both(
+        alloc,
+        work,
+        walk,
+        (spot.at(taken), spot.at(other)),
+        word_test,
+    )?;
     Ok(false)
 }
 

@@ -24,7 +24,7 @@ pub(crate) struct Manner {
 
 // What is said for some classes of an argument: those for which it was found, and those for which it is true.
 #[derive(Drop)]
-struct Found {
+struct Candidate {
     said: Said,
     aim: Aim,
 }
@@ -84,7 +84,7 @@ fn none_of(alloc: Global, count: usize) -> Result<Vec<bool>, AllocError> {
 fn push_found(
     alloc: Global,
     work: &mut Work,
-    list: &mut Vec<Found>,
+    list: &mut Vec<Candidate>,
     (classes, class): (&Classes, usize),
     said: Said,
 ) -> Result<(), Stopped> {
@@ -100,7 +100,7 @@ fn push_found(
         allowed: allowed(alloc, work, classes, &said)?,
     };
     need(&mut aim, class);
-    list.push(Found { said, aim })?;
+    list.push(Candidate { said, aim })?;
     Ok(())
 }
 
@@ -123,9 +123,9 @@ fn push_under(
     work: &mut Work,
     all: &mut Vec<Said>,
     (argument, taste): (&Argument, Taste),
-    found: Found,
+    found: Candidate,
 ) -> Result<bool, Stopped> {
-    let Found { said, aim } = found;
+    let Candidate { said, aim } = found;
     if aim.allows_all() {
         all.push(said)?;
         return Ok(true);
@@ -147,7 +147,7 @@ fn combined(
     alloc: Global,
     work: &mut Work,
     (argument, taste): (&Argument, Taste),
-    list: Vec<Found>,
+    list: Vec<Candidate>,
 ) -> Result<Option<Vec<Said>>, Stopped> {
     let mut all = Vec::new(alloc);
     for found in list {

@@ -1,5 +1,5 @@
 //! What a filter compares and may answer of calls of which the machine or the number is known.
-use crate::asked::Asked;
+use crate::word_test::WordTest;
 use crate::work::{Stopped, Work};
 use bpf_insn::{Insn, Operand, Operation, Test};
 use cert_state::{AVal, Listed, Regs, transfer};
@@ -17,7 +17,7 @@ pub(crate) struct Known {
 /// nothing is known.
 #[derive(Drop)]
 pub(crate) struct Survey {
-    pub(crate) asked: Vec<Asked>,
+    pub(crate) word_tests: Vec<WordTest>,
     pub(crate) answers: Vec<u32>,
     pub(crate) is_whole: bool,
 }
@@ -74,12 +74,17 @@ impl Walk {
         Ok(())
     }
 
-    fn ask(&mut self, work: &mut Work, asked: Asked) -> Result<(), Stopped> {
-        work.spend(self.found.asked.len())?;
-        if self.found.asked.iter().any(|other| *other == asked) {
+    fn ask(&mut self, work: &mut Work, word_test: WordTest) -> Result<(), Stopped> {
+        work.spend(self.found.word_tests.len())?;
+        if self
+            .found
+            .word_tests
+            .iter()
+            .any(|other| *other == word_test)
+        {
             return Ok(());
         }
-        self.found.asked.push(asked)?;
+        self.found.word_tests.push(word_test)?;
         Ok(())
     }
 }
@@ -123,13 +128,13 @@ fn at_branch(
             return walk.go(work, next, regs);
         }
         (AVal::Masked(word, mask), AVal::Const(number)) => {
-            let asked = Asked {
+            let word_test = WordTest {
                 word,
                 mask,
                 test,
                 number,
             };
-            walk.ask(work, asked)?;
+            walk.ask(work, word_test)?;
         }
         _ => walk.found.is_whole = false,
     }
@@ -212,7 +217,7 @@ fn begun(alloc: Global, length: usize) -> Result<Walk, AllocError> {
         waiting.push(Vec::new(alloc))?;
     }
     let found = Survey {
-        asked: Vec::new(alloc),
+        word_tests: Vec::new(alloc),
         answers: Vec::new(alloc),
         is_whole: true,
     };

@@ -6,17 +6,17 @@
 #![tactic(auto)]
 
 mod drafted;
-mod found;
 mod guess;
 mod judged;
 mod member;
 mod other_calls;
+mod recovering;
+mod refusal_text;
 mod shown;
-mod telling;
 mod told;
 mod unallowed;
 
-pub use found::recover_others;
 pub use other_calls::{Unguarded, guarded};
-pub use telling::line_of;
+pub use recovering::recover_others;
+pub use refusal_text::line_of;
 pub use unallowed::Unallowed;

@@ -6,7 +6,7 @@ ghost use Rattle.compare.specs.StubTold as stub;
 ghost use Rattle.aside.specs.RecoveredBut as spec;
 
 use crate::leave::Leave;
-use crate::recovered::found::{Found, recover_but};
+use crate::recovered::recovering::{RecoveredBundle, recover_but};
 use compare::{Behind, Calls, behind_stub, calls_text, stub_text};
 use machines::{Arch, Family};
 use recover::Unsaid;
@@ -102,7 +102,7 @@ pub fn recover_told(
     ensures { IfOk result (λ made. spec.IsToldBut native filter.now runc leave (string_bytes made.bundle) (string_bytes made.lines)) }
 {
     let behind = behind_of(alloc, filter, runc)?;
-    let Found { bundle, but } = recover_but(alloc, native, filter, &behind, leave)?;
+    let RecoveredBundle { bundle, but } = recover_but(alloc, native, filter, &behind, leave)?;
     let lines = lines_of(
         alloc,
         native.family(),

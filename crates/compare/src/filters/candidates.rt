@@ -1,6 +1,6 @@
 //! Records of one call that the comparisons of two filters tell apart.
 
-use crate::filters::asked::{Asked, add_asked};
+use crate::filters::word_tests::{WordTest, add_word_tests};
 use call_record::Record;
 use kernel_check::Accepted;
 use std::alloc::{AllocError, Global};
@@ -44,31 +44,31 @@ fn add(call: Record, most: usize, todo: &mut Vec<Record>) -> Result<(), AllocErr
 // Adds the record with these bits in the word that is asked for.
 fn add_with(
     call: &Record,
-    asked: &Asked,
+    word_test: &WordTest,
     bits: u32,
     most: usize,
     todo: &mut Vec<Record>,
 ) -> Result<(), AllocError> {
-    if asked.word >= 16 {
+    if word_test.word >= 16 {
         return Ok(());
     }
-    let kept = call.word(asked.word) & !asked.mask;
-    let other = with_word(call, asked.word, kept | (bits & asked.mask));
+    let kept = call.word(word_test.word) & !word_test.mask;
+    let other = with_word(call, word_test.word, kept | (bits & word_test.mask));
     add(other, most, todo)
 }
 
 // Adds the records that lie on both sides of a comparison.
 fn add_beside(
     call: &Record,
-    asked: &Asked,
+    word_test: &WordTest,
     most: usize,
     todo: &mut Vec<Record>,
 ) -> Result<(), AllocError> {
-    let number = asked.number;
-    add_with(call, asked, number, most, todo)?;
-    add_with(call, asked, number.wrapping_add(1), most, todo)?;
-    add_with(call, asked, number.wrapping_sub(1), most, todo)?;
-    add_with(call, asked, 0, most, todo)
+    let number = word_test.number;
+    add_with(call, word_test, number, most, todo)?;
+    add_with(call, word_test, number.wrapping_add(1), most, todo)?;
+    add_with(call, word_test, number.wrapping_sub(1), most, todo)?;
+    add_with(call, word_test, 0, most, todo)
 }
 
 /// Adds the records of a call that a filter tells apart from one of them, until there are so many.
@@ -79,9 +79,9 @@ pub(crate) fn add_candidates(
     most: usize,
     todo: &mut Vec<Record>,
 ) -> Result<(), AllocError> {
-    let mut asked = Vec::new(alloc);
-    add_asked(filter, call, &mut asked)?;
-    for it in &asked {
+    let mut word_tests = Vec::new(alloc);
+    add_word_tests(filter, call, &mut word_tests)?;
+    for it in &word_tests {
         add_beside(call, it, most, todo)?;
     }
     Ok(())

@@ -8,14 +8,18 @@ ghost use Rattle.aside.specs.declared.leave.Leave.{Leave as TheLeave};
 ghost use Rattle.aside.specs.Judged.{IsJudged, stub_calls};
 ghost use Rattle.aside.specs.Told.{AreFoundBut};
 
-use crate::judged::{But, joined};
+use crate::judged::{JudgedAside, joined};
 use compare::{Behind, Calls, Judged, counterexamples_behind};
 use maker::{Counterexample, Evidence};
 use profile_json::Document;
 use std::alloc::{AllocError, Global};
 
 // The calls that are not asked about: those that are left aside, and those of the stub, unless the whole filter is asked about.
-fn passed_of(alloc: Global, behind: &Behind<'_>, but: &But) -> Result<Vec<Calls>, AllocError>
+fn passed_of(
+    alloc: Global,
+    behind: &Behind<'_>,
+    but: &JudgedAside,
+) -> Result<Vec<Calls>, AllocError>
     ensures { IfOk result (λ all. all.items ≡ stub_calls but.now.judged.whole behind.now.answered.items ++ but.now.aside.items) }
 {
     if but.judged.whole {
@@ -52,7 +56,7 @@ fn counterexamples_in(
     document: &Document,
     filter: &[u8],
     behind: &Behind<'_>,
-    but: &But,
+    but: &JudgedAside,
     evidence: &Evidence,
 ) -> Result<Vec<Counterexample>, AllocError>
     requires { (found : TheCounterexample) → evidence.now ≡ Refuting found → Refutes document.now.native document.now.bytes filter.now found }
@@ -76,7 +80,7 @@ pub fn counterexamples_but(
     document: &Document,
     filter: &[u8],
     behind: &Behind<'_>,
-    but: &But,
+    but: &JudgedAside,
 ) -> Result<Vec<Counterexample>, AllocError>
     requires { (leave : TheLeave) × IsJudged document.now.native document.now.bytes filter.now behind.now.rest.now behind.now.answered.items leave
         but.now.aside.items but.now.judged.whole but.now.judged.evidence }

@@ -5,14 +5,14 @@ use std::alloc::AllocError;
 
 /// A comparison of a word of the record, under a mask, with a number.
 #[derive(Clone, Copy, Debug, PartialEq, Eq)]
-pub(crate) struct Asked {
+pub(crate) struct WordTest {
     pub(crate) word: u8,
     pub(crate) mask: u32,
     pub(crate) test: Test,
     pub(crate) number: u32,
 }
 
-impl Asked {
+impl WordTest {
     /// How it comes out.
     pub(crate) fn holds(&self, number: u32) -> bool {
         self.test.holds(number & self.mask, self.number)
@@ -24,7 +24,7 @@ impl Asked {
     }
 
     // The bits of the mask that tell which of two is greater: those above all that no word has.
-    fn telling(&self) -> u32 {
+    fn deciding_bits(&self) -> u32 {
         let stray = self.stray();
         if stray == 0 {
             return self.mask;
@@ -40,12 +40,18 @@ impl Asked {
         cell: Cell,
         is_greater: bool,
     ) -> Result<(), AllocError> {
-        push_unlike(found, cell, self.telling(), self.number, Some(is_greater))
+        push_unlike(
+            found,
+            cell,
+            self.deciding_bits(),
+            self.number,
+            Some(is_greater),
+        )
     }
 
     // Adds the numbers of a cell that are not told to be greater or less by single bits.
     fn push_like(&self, found: &mut Vec<Cell>, cell: Cell) -> Result<(), AllocError> {
-        push_under(found, cell, self.telling(), self.number)
+        push_under(found, cell, self.deciding_bits(), self.number)
     }
 
     // Adds the numbers of a cell of which the comparison of a whole word holds.

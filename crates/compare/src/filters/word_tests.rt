@@ -9,11 +9,11 @@ use std::alloc::AllocError;
 const FIRST_ARGUMENT: usize = 4;
 
 // The most comparisons on one way that are looked at.
-const MOST_ASKED: usize = 64;
+const MOST_TESTS: usize = 64;
 
 /// A comparison with a number, of the bits under a mask of one word of the record.
 #[derive(Clone, Copy, Debug)]
-pub(crate) struct Asked {
+pub(crate) struct WordTest {
     pub(crate) word: usize,
     pub(crate) mask: u32,
     pub(crate) number: u32,
@@ -36,10 +36,10 @@ fn operand(operand: Operand, insn: &Insn, held: &Held) -> u32 {
 }
 
 // The comparison that an instruction makes, if it is one of a word of the record.
-fn asks(insn: &Insn, held: &Held) -> Option<Asked> {
+fn word_test_of(insn: &Insn, held: &Held) -> Option<WordTest> {
     let (word, mask) = held.of?;
     match insn.operation()? {
-        Operation::Branch(_, other) => Some(Asked {
+        Operation::Branch(_, other) => Some(WordTest {
             word,
             mask,
             number: operand(other, insn, held),
@@ -130,10 +130,10 @@ fn behind(pc: u16, skip: u32) -> Option<u16> {
 }
 
 // Adds the comparison, if there is one of an argument, and room.
-fn add(asked: Option<Asked>, out: &mut Vec<Asked>) -> Result<(), AllocError> {
-    if let Some(asked) = asked {
-        if asked.word >= FIRST_ARGUMENT && out.len() < MOST_ASKED {
-            out.push(asked)?;
+fn add(word_test: Option<WordTest>, out: &mut Vec<WordTest>) -> Result<(), AllocError> {
+    if let Some(word_test) = word_test {
+        if word_test.word >= FIRST_ARGUMENT && out.len() < MOST_TESTS {
+            out.push(word_test)?;
         }
     }
     Ok(())
@@ -144,13 +144,13 @@ fn follow(
     filter: &Accepted<'_>,
     call: &Record,
     at: (u16, Held),
-    out: &mut Vec<Asked>,
+    out: &mut Vec<WordTest>,
 ) -> Result<Option<(u16, Held)>, AllocError> {
     let (pc, held) = at;
     let Some(insn) = filter.insn_at(pc) else {
         return Ok(None);
     };
-    add(asks(&insn, &held), out)?;
+    add(word_test_of(&insn, &held), out)?;
     let Some((next, skip)) = step(&insn, call, &held) else {
         return Ok(None);
     };
@@ -162,10 +162,10 @@ fn follow(
 
 /// Adds the comparisons that a filter makes of a call record's arguments, up to so many. A filter that keeps words in its scratch memory is
 /// not followed on.
-pub(crate) fn add_asked(
+pub(crate) fn add_word_tests(
     filter: &Accepted<'_>,
     call: &Record,
-    out: &mut Vec<Asked>,
+    out: &mut Vec<WordTest>,
 ) -> Result<(), AllocError> {
     let mut at = (
         0,

@@ -4,7 +4,7 @@ use Rattle.std.proofs.lemmas.Result.{err_from_is_err_and}
 use Rattle.machines.specs.declared.arch.Arch.{Arch}
 use Rattle.aside.specs.Judged.{IsJudged}
 use Rattle.aside.proofs.RecoveredLaws.{recovered_by}
-use Rattle.aside.proofs.recovered.found.recover_but.Goals as goal
+use Rattle.aside.proofs.recovered.recovering.recover_but.Goals as goal
 
 pub returns-clause-recovered : goal.returns-clause-recovered
 returns-clause-recovered c =

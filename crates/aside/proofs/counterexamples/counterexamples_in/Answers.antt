@@ -3,7 +3,7 @@ use Rattle.std.specs.Prelude.{false}
 use Rattle.compare.specs.declared.behind_runc.stub.calls.Calls.{Calls}
 use Rattle.compare.specs.Behind.{AreFoundBehind}
 use Rattle.aside.proofs.FrontLaws.{if_ok}
-use Rattle.aside.proofs.found.counterexamples_in.Goals as goal
+use Rattle.aside.proofs.counterexamples.counterexamples_in.Goals as goal
 
 pub of_found-requires : goal.of_found-requires
 of_found-requires c = c.requires c.in-Refuting.found c.in-Refuting.is

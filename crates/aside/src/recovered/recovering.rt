@@ -5,7 +5,7 @@ ghost use Rattle.aside.specs.Judged.{stub_calls};
 ghost use Rattle.aside.specs.RecoveredBut.{IsCertified, IsRecoveredBut, IsUnsaidBut};
 ghost use Rattle.machines.specs.declared.arch.Arch.{Arch as TheArch};
 
-use crate::judged::{But, judge_but};
+use crate::judged::{JudgedAside, judge_but};
 use crate::leave::Leave;
 use compare::Behind;
 use machines::Arch;
@@ -16,9 +16,9 @@ use std::alloc::Global;
 
 /// A bundle that was made of a filter, and what was judged of the two, with the calls that were left aside.
 #[derive(Drop)]
-pub struct Found {
+pub struct RecoveredBundle {
     pub bundle: String,
-    pub but: But,
+    pub but: JudgedAside,
 }
 
 // Refuses a bundle if it was not judged that the filter is right.
@@ -50,7 +50,7 @@ pub fn recover_but(
     filter: &[u8],
     behind: &Behind<'_>,
     leave: Leave,
-) -> Result<Found, Unsaid>
+) -> Result<RecoveredBundle, Unsaid>
     requires { IsBehind filter.now behind.now.rest.now behind.now.answered.items }
     ensures recovered { IfOk result (λ found. IsRecoveredBut native (string_bytes found.bundle) filter.now leave
         (stub_calls found.but.judged.whole behind.now.answered.items) found.but.aside.items) }
@@ -65,5 +65,5 @@ pub fn recover_but(
         return Err(Unsaid::OutOfMemory);
     };
     be_right(&but.judged.evidence)?;
-    Ok(Found { bundle, but })
+    Ok(RecoveredBundle { bundle, but })
 }

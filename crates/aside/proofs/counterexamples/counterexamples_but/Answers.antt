@@ -1,7 +1,7 @@
 use Rattle.std.proofs.Common.{ap, inl, inr, ◌∙◌}
 use Rattle.aside.proofs.AsideLaws.{refuted, judged_as}
 use Rattle.aside.proofs.FrontLaws.{if_ok}
-use Rattle.aside.proofs.found.counterexamples_but.Goals as goal
+use Rattle.aside.proofs.counterexamples.counterexamples_but.Goals as goal
 
 pub counterexamples_in-requires : goal.counterexamples_in-requires
 counterexamples_in-requires c = λ found e.
