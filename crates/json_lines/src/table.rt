@@ -16,6 +16,7 @@ verdict {verdict}
 const CHECK: &str = "yes
 refused_profile refused profile {number} {fault} {of}
 refused_profile refused profile {number} {fault}
+refused_check refused check {number} {fault}
 no_view no 1 View {number} {fault}
 no_kernel no 2 Kernel {number} {fault} pc {pc}
 no_form no 3 Form {number} {fault}
