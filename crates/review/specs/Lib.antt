@@ -5,3 +5,4 @@ pub mod Told
 pub mod Systemd
 pub mod SystemdTold
 pub mod Reviewed
+pub mod inner

@@ -1,7 +1,8 @@
 -- How it is told what a profile leaves open.
-use Rattle.std.specs.Prelude.{◌≡◌, ℕ, ◌+◌, Bool, true, false, if◌then◌else◌, List, [], ◌∷◌, ◌++◌, Option, Some, None, codes}
+use Rattle.std.specs.Prelude.{◌≡◌, ◌&&◌, ℕ, ◌+◌, Bool, true, false, if◌then◌else◌, List, [], ◌∷◌, ◌++◌, Option, Some, None, codes}
 use Rattle.std.specs.Fmt.{decimal}
-use Rattle.std.specs.List.{flat_map, list_all, list_any}
+use Rattle.std.specs.List.{list_all, list_any}
+use Rattle.std.specs.Str.{bytes_eq}
 use Rattle.call_record.specs.Record.{words}
 use Rattle.machines.specs.Arch.{machine_name}
 use Rattle.call_tables.specs.Tables.{table_of}
@@ -47,24 +48,28 @@ abbrev pub name_text : Option (List ℕ) → ℕ → List ℕ
 name_text (Some name) nr = name
 name_text None nr = codes "call " ++ decimal nr
 
--- a call by its name, which of its records, and its machine
+-- a call by its name, and which of its records
 abbrev pub asked_text : Asked → List ℕ
-asked_text asked =
-    name_text (name_in (table_of (whole asked.arch)) asked.nr) asked.nr ++ codes " " ++ asked.part.0.now ++ codes " of "
-    ++ machine_name asked.arch
+asked_text asked = name_text (name_in (table_of (whole asked.arch)) asked.nr) asked.nr ++ codes " " ++ asked.part.0.now ++ codes " of "
 
-abbrev pub undecided_line : Asked → List ℕ
-undecided_line asked = codes "  undecided TooLarge " ++ asked_text asked ++ codes "\n"
+-- what stands in a line before its machines: what is refused has no line
+abbrev pub front_of : Asked → Answer → List ℕ
+front_of asked Refused = []
+front_of asked (Open call) = codes "  open " ++ asked_text asked
+front_of asked Undecided = codes "  undecided TooLarge " ++ asked_text asked
 
--- what is refused has no line
-abbrev pub answer_line : Policy → List Rule → List ℕ → Asked → Answer → List ℕ
-answer_line p rules ends asked Refused = []
-answer_line p rules ends asked (Open call) =
-    codes "  open " ++ asked_text asked ++ codes ": " ++ reason_from p 0 rules ends (words call) ++ codes "\n"
-answer_line p rules ends asked Undecided = undecided_line asked
+-- what stands behind them
+abbrev pub end_of : Policy → List Rule → List ℕ → Answer → List ℕ
+end_of p rules ends Refused = []
+end_of p rules ends (Open call) = codes ": " ++ reason_from p 0 rules ends (words call) ++ codes "\n"
+end_of p rules ends Undecided = codes "\n"
 
-abbrev pub judged_line : Policy → List Rule → List ℕ → Judged → List ℕ
-judged_line p rules ends j = answer_line p rules ends j.asked j.answer
+-- what stands in a line before its machines, and behind them
+abbrev pub line_of : Policy → List Rule → List ℕ → Judged → List ℕ × List ℕ
+line_of p rules ends j = (front_of j.asked j.answer, end_of p rules ends j.answer)
+
+abbrev pub is_alike : List ℕ × List ℕ → List ℕ × List ℕ → Bool
+is_alike a b = bytes_eq a.0 b.0 && bytes_eq a.1 b.1
 
 -- ---- the state of a group
 
@@ -89,8 +94,19 @@ state_of list =
 abbrev pub head_line : GroupEntry → List Judged → List ℕ
 head_line g list = codes "group " ++ g.0.now ++ codes ": " ++ state_of list ++ codes "; " ++ g.1.now ++ codes "\n"
 
+-- the line that is begun goes on with a machine more, or it ends, and another begins
+abbrev pub begun : List ℕ × List ℕ → List ℕ × List ℕ → List ℕ → List ℕ
+begun last line machine = (if is_alike last line then codes ", " else last.1 ++ line.0) ++ machine
+
+-- the lines behind one that is begun: those of one call that are alike but for their machines are one line, which names these
+abbrev pub lines_from : Policy → List Rule → List ℕ → List ℕ × List ℕ → List Judged → List ℕ
+lines_from p rules ends last [] = last.1
+lines_from p rules ends last (j ∷ js) =
+    if is_refused j.answer then lines_from p rules ends last js
+    else begun last (line_of p rules ends j) (machine_name j.asked.arch) ++ lines_from p rules ends (line_of p rules ends j) js
+
 abbrev pub group_text : Policy → List Rule → List ℕ → GroupEntry → List Judged → List ℕ
-group_text p rules ends g list = head_line g list ++ flat_map (judged_line p rules ends) list
+group_text p rules ends g list = head_line g list ++ lines_from p rules ends ([], []) list
 
 -- what the profile lets through of all that a group asks about on the profile's machines is told behind a text
 pub record AddsGroup (p : Policy) (rules : List Rule) (ends : List ℕ) (g : GroupEntry) (old new : List ℕ) : Type 0 where

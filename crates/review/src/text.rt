@@ -1,11 +1,12 @@
 //! The lines that tell what is open.
-ghost use Rattle.std.specs.Prelude.{◌≡◌, ◌++◌, IfOk, codes, string_bytes};
-ghost use Rattle.std.specs.List.{flat_map, list_all, list_any};
+ghost use Rattle.std.specs.Prelude.{◌≡◌, ◌++◌, ◌∷◌, [], IfOk, List, codes, string_bytes};
+ghost use Rattle.std.specs.List.{list_all, list_any};
 ghost use Rattle.call_record.specs.Record.{words};
 ghost use Rattle.call_tables.specs.Tables.{table_of};
 ghost use Rattle.call_tables.specs.Table.{name_in};
 ghost use Rattle.review.specs.Told as spec;
-ghost use Rattle.review.specs.declared.judged.Answer.TheVariants.{Open};
+ghost use Rattle.review.specs.declared.judged.Judged.{Judged as TheJudged};
+ghost use Rattle.review.specs.inner.Lines.{texts_of};
 
 use crate::asked::{Asked, whole};
 use crate::groups::Group;
@@ -15,7 +16,7 @@ use call_tables::call_name;
 use machines::Arch;
 use profile::{Cond, Profile, Rule};
 use profile_json::EntryRules;
-use std::alloc::AllocError;
+use std::alloc::{AllocError, Global};
 use std::fmt::Write;
 use wording::{ActionText, ConditionText, entry_at, is_match};
 
@@ -95,68 +96,140 @@ fn put_asked(text: &mut String, asked: &Asked) -> Result<(), AllocError>
 {
     put_name(text, whole(asked.arch), asked.nr)?;
     let part = asked.part.0;
-    let machine = asked.arch.machine_name();
-    write!(text, " {part} of {machine}")
+    write!(text, " {part} of ")
 }
 
-// Adds the line of a record that is let through.
-fn put_open(
-    text: &mut String,
-    profile: &Profile,
-    all: &EntryRules,
-    asked: &Asked,
-    call: &Record,
-) -> Result<(), AllocError>
-    ensures { IfOk result (λ _. string_bytes text.new ≡ string_bytes text.old
-        ++ spec.answer_line profile.now all.now.rules.items all.now.ends.items asked.now (Open call.now)) }
+// Adds what stands in a line before its machines.
+fn put_front(text: &mut String, judged: &Judged) -> Result<(), AllocError>
+    ensures { IfOk result (λ _. string_bytes text.new ≡ string_bytes text.old ++ spec.front_of judged.now.asked judged.now.answer) }
 {
-    text.push_str("  open ")?;
-    put_asked(text, asked)?;
-    text.push_str(": ")?;
-    put_reason(text, profile, all, call)?;
-    text.push_str("\n")
+    match &judged.answer {
+        Answer::Refused => Ok(()),
+        Answer::Open(_) => {
+            text.push_str("  open ")?;
+            put_asked(text, &judged.asked)
+        }
+        Answer::Undecided => {
+            text.push_str("  undecided TooLarge ")?;
+            put_asked(text, &judged.asked)
+        }
+    }
 }
 
-// Adds the line of what is not decided.
-fn put_undecided(text: &mut String, asked: &Asked) -> Result<(), AllocError>
-    ensures { IfOk result (λ _. string_bytes text.new ≡ string_bytes text.old ++ spec.undecided_line asked.now) }
-{
-    text.push_str("  undecided TooLarge ")?;
-    put_asked(text, asked)?;
-    text.push_str("\n")
-}
-
-// Adds the line of an answer.
-fn put_answer(
+// Adds what stands in a line behind its machines.
+fn put_end(
     text: &mut String,
     profile: &Profile,
     all: &EntryRules,
     judged: &Judged,
 ) -> Result<(), AllocError>
     ensures { IfOk result (λ _. string_bytes text.new ≡ string_bytes text.old
-        ++ spec.judged_line profile.now all.now.rules.items all.now.ends.items judged.now) }
+        ++ spec.end_of profile.now all.now.rules.items all.now.ends.items judged.now.answer) }
 {
     match &judged.answer {
         Answer::Refused => Ok(()),
-        Answer::Open(call) => put_open(text, profile, all, &judged.asked, call),
-        Answer::Undecided => put_undecided(text, &judged.asked),
+        Answer::Open(call) => {
+            text.push_str(": ")?;
+            put_reason(text, profile, all, call)?;
+            text.push_str("\n")
+        }
+        Answer::Undecided => text.push_str("\n"),
+    }
+}
+
+/// A line without its machines: what stands before them, and what stands behind them.
+#[derive(Drop)]
+pub(crate) struct Line {
+    pub(crate) front: String,
+    pub(crate) end: String,
+}
+
+// The line of an answer.
+fn line_of(
+    alloc: Global,
+    profile: &Profile,
+    all: &EntryRules,
+    judged: &Judged,
+) -> Result<Line, AllocError>
+    ensures { IfOk result (λ line. texts_of line ≡ spec.line_of profile.now all.now.rules.items all.now.ends.items judged.now) }
+{
+    let mut front = String::new(alloc);
+    put_front(&mut front, judged)?;
+    let mut end = String::new(alloc);
+    put_end(&mut end, profile, all, judged)?;
+    Ok(Line { front, end })
+}
+
+// Whether two lines are alike but for their machines.
+fn is_alike(a: &Line, b: &Line) -> bool
+    ensures { result ≡ spec.is_alike (texts_of a.now) (texts_of b.now) }
+{
+    if *a.front != *b.front {
+        return false;
+    }
+    *a.end == *b.end
+}
+
+// Ends a line and begins another, or goes on with the line that is begun.
+fn put_begun(text: &mut String, last: &Line, line: &Line, machine: &str) -> Result<(), AllocError>
+    ensures { IfOk result (λ _. string_bytes text.new ≡ string_bytes text.old ++ spec.begun (texts_of last.now) (texts_of line.now) machine.now) }
+{
+    if is_alike(last, line) {
+        text.push_str(", ")?;
+        return text.push_str(machine);
+    }
+    text.push_str(&last.end)?;
+    text.push_str(&line.front)?;
+    text.push_str(machine)
+}
+
+// Adds an answer behind a line that is begun.
+fn put_answer(
+    alloc: Global,
+    text: &mut String,
+    profile: &Profile,
+    all: &EntryRules,
+    judged: &Judged,
+    last: Line,
+) -> Result<Line, AllocError>
+    ensures { (more : List TheJudged) → IfOk result (λ line. string_bytes text.new
+        ++ spec.lines_from profile.now all.now.rules.items all.now.ends.items (texts_of line) more
+        ≡ string_bytes text.old ++ spec.lines_from profile.now all.now.rules.items all.now.ends.items (texts_of last) (judged.now ∷ more)) }
+{
+    if is_refused(judged) {
+        return Ok(last);
+    }
+    let line = line_of(alloc, profile, all, judged)?;
+    put_begun(text, &last, &line, judged.asked.arch.machine_name())?;
+    Ok(line)
+}
+
+// A line that is not begun.
+fn no_line(alloc: Global) -> Line
+    ensures { texts_of result ≡ ([], []) }
+{
+    Line {
+        front: String::new(alloc),
+        end: String::new(alloc),
     }
 }
 
 // Adds the lines of answers.
 fn put_answers(
+    alloc: Global,
     text: &mut String,
     profile: &Profile,
     all: &EntryRules,
     list: &[Judged],
 ) -> Result<(), AllocError>
     ensures { IfOk result (λ _. string_bytes text.new ≡ string_bytes text.old
-        ++ flat_map (spec.judged_line profile.now all.now.rules.items all.now.ends.items) list.now) }
+        ++ spec.lines_from profile.now all.now.rules.items all.now.ends.items ([], []) list.now) }
 {
+    let mut last = no_line(alloc);
     for judged in list {
-        put_answer(text, profile, all, judged)?;
+        last = put_answer(alloc, text, profile, all, judged, last)?;
     }
-    Ok(())
+    text.push_str(&last.end)
 }
 
 fn is_refused(judged: &Judged) -> bool
@@ -227,6 +300,7 @@ fn put_head(text: &mut String, group: &Group, list: &[Judged]) -> Result<(), All
 
 /// Adds the lines of a group.
 pub(crate) fn put_group(
+    alloc: Global,
     text: &mut String,
     profile: &Profile,
     all: &EntryRules,
@@ -237,5 +311,5 @@ pub(crate) fn put_group(
         ++ spec.group_text profile.now all.now.rules.items all.now.ends.items group.now list.now) }
 {
     put_head(text, group, list)?;
-    put_answers(text, profile, all, list)
+    put_answers(alloc, text, profile, all, list)
 }

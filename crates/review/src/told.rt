@@ -36,7 +36,7 @@ fn add_group(
 {
     let asked = asked_of(alloc, profile.machines(), group.2)?;
     let list = judge(alloc, profile, &asked, steps)?;
-    put_group(text, profile, all, group, &list)?;
+    put_group(alloc, text, profile, all, group, &list)?;
     Ok(())
 }
 

@@ -1,10 +1,12 @@
-use Rattle.std.proofs.Common.{◌≡◌, ◌++◌, take}
+-- What is told, and what is to be told of those that are left, is all.
+use Rattle.std.proofs.Common.{◌≡◌, ◌++◌, [], drop}
 use Rattle.std.specs.Prelude.{string_bytes}
-use Rattle.std.specs.List.{flat_map}
-use Rattle.review.specs.Told.{judged_line}
+use Rattle.review.specs.Told.{lines_from}
+use Rattle.review.specs.inner.Lines.{texts_of}
 use Rattle.review.proofs.text.put_answers.Given as goal
 
 abbrev pub invariant-loop-judged : goal.invariant-loop-judged
 invariant-loop-judged l =
     string_bytes l.text
-    ≡ string_bytes l.fn.text ++ flat_map (judged_line l.profile l.all.rules.items l.all.ends.items) (take l.judged-index l.list)
+    ++ lines_from l.profile l.all.rules.items l.all.ends.items (texts_of l.last) (drop l.judged-index l.list)
+    ≡ string_bytes l.fn.text ++ lines_from l.profile l.all.rules.items l.all.ends.items ([], []) l.list
