@@ -49,6 +49,8 @@ entry entry {entry} {action}
 default default {action}
 foreign foreign {action}
 logged told {times} times, code {code} {action}
+process process {process}
+more_processes more lines of other processes: {lines}
 may_answer the bundle may answer so
 never_answers the bundle never answers so: another filter did
 entries_above entries as above
