@@ -83,7 +83,8 @@ matches, default or foreign. Under it each entry for that call, whether it match
 conditions hold.
 CALL any: what the profile says of the call whatever its arguments.
 record HEX: the call of the 128 digits that certify reports.
-audit: the lines that a kernel logs of filters (type=1326), read from standard input.
+audit: the lines that a kernel logs of filters (type=1326), read from standard input. Each answer is
+told with its processes.
 Status 0, or 4 and a line that begins with 'refused'. With linux-.. a second line says which word
 is wrong.
 
@@ -135,7 +136,8 @@ for docker|podman|containerd: work out an engine's own profile.
 cap CAP.. or cap all, and kernel 6.12: the capabilities and the kernel that it is worked out for.
 @basic-io and the like, groups of calls as systemd has them: allow their calls, too.
 bundle, as the last word: write a bundle, a config.json with the section in it.
-Status 0, 1 and the reason on standard error, or 4 and a line that begins with 'refused'.
+Status 0, or 5 if a name that was left out may be a slip. 1 and the reason on standard error, or 4
+and a line that begins with 'refused'.
 
 Example: ccell adapt linux-x86-64 config.json first > web.json
 ";
