@@ -73,7 +73,9 @@ fn bundle_of<'a>(
     } = room;
     let name: &'a String = name.insert(own);
     let name = name.as_str();
-    let document = read_text(alloc, native, text, document)?;
+    let Ok(document) = read_text(alloc, native, text, document) else {
+        return Err(MakeError::OutOfMemory);
+    };
     match checked_bundle.fill(alloc, document) {
         Ok(checked) => Ok(Bundle { name, checked }),
         Err(make_error) => Err(make_error),
