@@ -189,6 +189,7 @@ static void give_up(struct filter *filter) {
     free(filter->rules);
     free(filter->calls);
     free(filter->conditions);
+    free(filter->numbers);
     free(filter->bytes);
     free(filter);
 }

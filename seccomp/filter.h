@@ -50,14 +50,17 @@ struct rule {
     uint32_t left_out; /* machines on which libseccomp leaves it out of socketcall or ipc: `judge_in_ways` */
     uint32_t lost, settles; /* machines of `machines_that_lose` and of `machines_that_settle` */
     bool is_open;           /* `lost` is not known yet: all rules of the call had one action */
-    bool were_unlike, had_whole; /* what its call had before it: `struct of_call` */
-    size_t before;          /* the place of the last rule before it of its call, counted from 1 */
-    size_t alike;           /* the same of those that have its slot in `conditions` */
+    bool were_unlike, had_whole, could_lose; /* what its call had before it: `struct of_call` */
+    uint32_t before;        /* the place of the last rule before it of its call, counted from 1 */
+    uint32_t alike;         /* the same of those that have its slot in `conditions` */
+    uint32_t on_argument;   /* the same of those of its call whose `first_equal` is its own */
+    uint32_t of_number;     /* the same of those that have its slot in `numbers` */
 };
 
-/* The rules of a call: the place of the last one, counted from 1, or 0; whether they have several actions; and whether one has no
- * conditions. */
-struct of_call { bool is_taken, are_unlike, has_whole; int call, number; size_t last; };
+/* The rules of a call: the place of the last one, counted from 1, or 0; the same of those with each `first_equal`; whether they have
+ * several actions; whether one has no conditions; and whether libseccomp may lose one beside another: not where all have as many
+ * conditions, and none is `is_at_risk`. */
+struct of_call { bool is_taken, are_unlike, has_whole, can_lose; int call, number; uint32_t last, on_argument[ARGUMENTS + 1]; };
 
 struct state { uint32_t attributes[ATTRIBUTES], machines; size_t count; };
 
@@ -72,7 +75,8 @@ struct filter {
     size_t room; /* for rules, and for calls that have or had one: 0 or a power of two */
     struct of_call *calls; /* twice as many slots, each taken by a call or free */
     size_t called;         /* how many are taken */
-    size_t *conditions;    /* of each slot the place of its last rule with the same conditions, counted from 1 */
+    uint32_t *conditions;  /* of each slot the place of its last rule with the same conditions, counted from 1 */
+    uint32_t *numbers;     /* the same of rules whose first condition is `==` with the same number */
     uint8_t *bytes; /* CCELL_MOST_BYTES, once a filter was made */
     size_t length;  /* 0: none is made of what stands here now */
     bool notifies;  /* SCMP_ACT_NOTIFY was its default or a rule's, so that it is loaded with a listener */
@@ -105,6 +109,13 @@ size_t rule_before(const struct filter *filter, int call, int number, size_t pla
 /* The place, counted from 1, of the last rule before another one, or before one that is to come where that is 0, that may have the call and
  * the conditions of a rule; 0 where there is none. */
 size_t alike_before(const struct filter *filter, const struct rule *rule, size_t place);
+/* A walk over the rules that may match a call of a given rule, the last one first: all rules of that call, but those that want another
+ * number where the rule has its first condition. */
+struct walk { const struct filter *filter; const struct rule *beside; uint32_t at[ARGUMENTS + 1]; };
+struct walk walk_beside(const struct filter *filter, const struct rule *rule);
+const struct rule *next_beside(struct walk *walk); /* NULL behind the first rule */
+/* Whether libseccomp may lose a rule of a call beside another. */
+bool can_lose(const struct filter *filter, int call, int number);
 /* Whether all rules of a call have an action, so that none of them contradicts or settles one that has it. */
 bool have_action(const struct filter *filter, int call, int number, uint32_t action);
 /* The first rule without conditions for a call on a machine, or NULL. */
@@ -133,6 +144,8 @@ enum winner winner_of(const struct rule *earlier, const struct rule *later);
 struct parts { struct rule *rules; size_t count, room; const struct rule *beside; };
 int list_parts(const struct filter *filter, const struct rule *rule, int machine, const struct rule *last, struct parts *parts);
 void free_parts(struct parts *parts);
+/* Whether a rule, beside others with as many conditions, may be lost in libseccomp, or lose one of them. */
+bool is_at_risk(const struct rule *rule);
 /* Finds out for the rules of a call on which machines libseccomp may lose one, or another one by it. It has to be known before machines are
  * taken away, and where rules settle each other. */
 void find_lost(struct filter *filter, int call, int number);

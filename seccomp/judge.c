@@ -80,8 +80,8 @@ int contradicts(const struct rule *rule, const struct rule *other, int machine) 
  * by the rule that was asked for. */
 static int judge_overlaps(const struct filter *filter, const struct rule *rule, const struct rule *asked) {
     if (have_action(filter, rule->call, rule->number, rule->action)) return 0;
-    for (size_t at = 0; (at = rule_before(filter, rule->call, rule->number, at));) {
-        const struct rule *old = &filter->rules[at - 1];
+    struct walk walk = walk_beside(filter, rule);
+    for (const struct rule *old; (old = next_beside(&walk));) {
         if (old->action == rule->action || (!is_strict && rule == asked && winner_of(old, rule) != NEITHER)) continue;
         int machine = machine_of_both(old, rule);
         if (machine >= 0) return contradicts(asked, old, machine);

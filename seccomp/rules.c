@@ -41,7 +41,7 @@ static struct of_call *slot_of(const struct filter *filter, int call, int number
     }
 }
 
-static size_t *slot_of_conditions(const struct filter *filter, const struct rule *rule) {
+static uint32_t *slot_of_conditions(const struct filter *filter, const struct rule *rule) {
     uint64_t key = key_of(rule->call, rule->number);
     for (unsigned i = 0; i < rule->count; i++) {
         const struct ccell_condition *each = &rule->conditions[i];
@@ -50,10 +50,37 @@ static size_t *slot_of_conditions(const struct filter *filter, const struct rule
     return &filter->conditions[key & (filter->room - 1)];
 }
 
+/* The argument of a rule's first condition where that is `==`; ARGUMENTS where it is another one, or there is none. */
+static unsigned first_equal(const struct rule *rule) {
+    return rule->count && rule->conditions[0].operator_ == CCELL_EQ ? rule->conditions[0].argument : ARGUMENTS;
+}
+
+static uint32_t *slot_of_number(const struct filter *filter, const struct rule *rule) {
+    uint64_t key = mixed(mixed(key_of(rule->call, rule->number), rule->conditions[0].argument), rule->conditions[0].value);
+    return &filter->numbers[key & (filter->room - 1)];
+}
+
+/* Puts a rule behind the others of its call that have a `first_equal`, and behind those whose number is the same. */
+static void enter_first(struct filter *filter, struct of_call *of, struct rule *rule, size_t place) {
+    unsigned argument = first_equal(rule);
+    rule->on_argument = of->on_argument[argument];
+    of->on_argument[argument] = (uint32_t)place + 1;
+    if (argument == ARGUMENTS) return;
+    uint32_t *slot = slot_of_number(filter, rule);
+    rule->of_number = *slot;
+    *slot = (uint32_t)place + 1;
+}
+
+static void drop_first(struct filter *filter, struct of_call *of, const struct rule *rule) {
+    unsigned argument = first_equal(rule);
+    of->on_argument[argument] = rule->on_argument;
+    if (argument != ARGUMENTS) *slot_of_number(filter, rule) = rule->of_number;
+}
+
 static void enter(struct filter *filter, size_t place) {
     struct rule *rule = &filter->rules[place];
     struct of_call *of = slot_of(filter, rule->call, rule->number);
-    size_t *slot = slot_of_conditions(filter, rule);
+    uint32_t *slot = slot_of_conditions(filter, rule);
     if (!of->is_taken) {
         *of = (struct of_call){.is_taken = true, .call = rule->call, .number = rule->number};
         filter->called++;
@@ -61,11 +88,14 @@ static void enter(struct filter *filter, size_t place) {
     rule->before = of->last;
     rule->were_unlike = of->are_unlike;
     rule->had_whole = of->has_whole;
+    rule->could_lose = of->can_lose;
     of->are_unlike |= of->last && filter->rules[of->last - 1].action != rule->action;
     of->has_whole |= !rule->count;
-    of->last = place + 1;
+    of->can_lose |= is_at_risk(rule) || (of->last && filter->rules[of->last - 1].count != rule->count);
+    of->last = (uint32_t)place + 1;
     rule->alike = *slot;
-    *slot = place + 1;
+    *slot = (uint32_t)place + 1;
+    enter_first(filter, of, rule, place);
 }
 
 size_t rule_before(const struct filter *filter, int call, int number, size_t place) {
@@ -78,6 +108,40 @@ size_t alike_before(const struct filter *filter, const struct rule *rule, size_t
     return place ? filter->rules[place - 1].alike : *slot_of_conditions(filter, rule);
 }
 
+/* The first place, from one on, in a slot of `numbers` whose rule has the call and the number of another one; 0 where there is none. */
+static uint32_t same_number(const struct filter *filter, const struct rule *rule, uint32_t at) {
+    for (; at; at = filter->rules[at - 1].of_number) {
+        const struct rule *old = &filter->rules[at - 1];
+        bool is_alike = old->call == rule->call && old->number == rule->number && first_equal(old) == first_equal(rule);
+        if (is_alike && old->conditions[0].value == rule->conditions[0].value) break;
+    }
+    return at;
+}
+
+struct walk walk_beside(const struct filter *filter, const struct rule *rule) {
+    struct walk walk = {filter, rule, {0}};
+    unsigned own = first_equal(rule);
+    if (!filter->room) return walk;
+    memcpy(walk.at, slot_of(filter, rule->call, rule->number)->on_argument, sizeof walk.at);
+    if (own != ARGUMENTS) walk.at[own] = same_number(filter, rule, *slot_of_number(filter, rule));
+    return walk;
+}
+
+const struct rule *next_beside(struct walk *walk) {
+    unsigned own = first_equal(walk->beside), last = 0;
+    for (unsigned i = 1; i <= ARGUMENTS; i++)
+        if (walk->at[i] > walk->at[last]) last = i;
+    if (!walk->at[last]) return NULL;
+    const struct rule *found = &walk->filter->rules[walk->at[last] - 1];
+    bool is_own = last == own && own != ARGUMENTS;
+    walk->at[last] = is_own ? same_number(walk->filter, walk->beside, found->of_number) : found->on_argument;
+    return found;
+}
+
+bool can_lose(const struct filter *filter, int call, int number) {
+    return filter->room && slot_of(filter, call, number)->can_lose;
+}
+
 bool have_action(const struct filter *filter, int call, int number, uint32_t action) {
     const struct of_call *of = filter->room ? slot_of(filter, call, number) : NULL;
     return !of || !of->last || (!of->are_unlike && filter->rules[of->last - 1].action == action);
@@ -86,19 +150,23 @@ bool have_action(const struct filter *filter, int call, int number, uint32_t act
 /* Makes room for another rule and for its call. */
 static int grow(struct filter *filter) {
     size_t room = !filter->room ? 64 : filter->now.count == filter->room ? 2 * filter->room : filter->room;
-    struct of_call *calls = calloc(2 * room, sizeof *calls);
-    size_t *conditions = calls ? calloc(room, sizeof *conditions) : NULL;
-    struct rule *rules = conditions ? reallocarray(filter->rules, room, sizeof *rules) : NULL;
+    struct of_call *calls = room <= UINT32_MAX ? calloc(2 * room, sizeof *calls) : NULL;
+    uint32_t *conditions = calls ? calloc(room, sizeof *conditions) : NULL;
+    uint32_t *numbers = conditions ? calloc(room, sizeof *numbers) : NULL;
+    struct rule *rules = numbers ? reallocarray(filter->rules, room, sizeof *rules) : NULL;
     if (!rules) {
         free(calls);
         free(conditions);
+        free(numbers);
         return -ENOMEM;
     }
     free(filter->calls);
     free(filter->conditions);
+    free(filter->numbers);
     filter->rules = rules;
     filter->calls = calls;
     filter->conditions = conditions;
+    filter->numbers = numbers;
     filter->room = room;
     filter->called = 0;
     for (size_t place = 0; place < filter->now.count; place++) enter(filter, place);
@@ -114,6 +182,8 @@ void drop_rules(struct filter *filter, size_t count) {
         of->last = last->before;
         of->are_unlike = last->were_unlike;
         of->has_whole = last->had_whole;
+        of->can_lose = last->could_lose;
+        drop_first(filter, of, last);
         *slot_of_conditions(filter, last) = last->alike;
     }
 }
