@@ -12,11 +12,7 @@ use Rattle.compare.specs.Counterexamples.{AllRefute, Refutes}
 use Rattle.aside.specs.declared.leave.Leave.{Leave}
 use Rattle.aside.specs.Judged.{AreLeftOut, IsLeftOut}
 use Rattle.aside.specs.Told.{AreFoundBut, CertifiesBut, CertifiesBy}
-use Rattle.cli.specs.declared.stops.Stop.{Stop}
-use Rattle.cli.specs.Dispatch.{AnswersBut, StopsAt}
-use Rattle.cli.specs.Files.{Folder, HasBundle, HasEnoughFilter, HasFilter, IsEnough}
-use Rattle.cli.specs.Running.{told_line}
-use Rattle.cli.proofs.DispatchLaws.{second}
+use Rattle.cli.specs.Files.{IsEnough}
 use Rattle.cli.proofs.EnoughLaws.{whole_filter}
 use Rattle.cli.proofs.FileLaws.{whole_behind}
 
@@ -67,38 +63,6 @@ module _ (native : Arch) (bundle filter f : List ℕ) (enough : IsEnough 32768 f
         → CertifiesBut held failures old new native bundle filter leave result
     but_of_file (inl h) = inl (by_file h h.behind)
     but_of_file (inr lacks) = inr lacks
-
--- the files are read, or the program stops
-module _ {O : Type 0} (held : O → Option (List ℕ)) (failures : O → Failures) (folder : Option Folder) (old : O) (native : Arch)
-    (bundle filter : List ℕ) (leave : Leave) where
-  pub but_first : (stop : Stop) (result : Result Bool Stop) → StopsAt folder bundle stop → result ≡ Err stop
-      → AnswersBut held failures folder old old native bundle filter leave result
-  but_first stop result h e = inl (record { stop = stop; at = inl h; told = e; unwritten = refl })
-
-  module _ (b : List ℕ) (of_bundle : HasBundle native folder bundle b) (later : Option Folder) (same_folder : later ≡ folder) where
-    pub but_second : (stop : Stop) (result : Result Bool Stop) → StopsAt later filter stop → result ≡ Err stop
-        → AnswersBut held failures folder old old native bundle filter leave result
-    but_second stop result h e = inl (record {
-      stop = stop;
-      at = second held failures folder old native bundle filter b of_bundle later same_folder [] stop h;
-      told = e;
-      unwritten = refl;
-    })
-
-    pub but_done : (f : List ℕ) → HasEnoughFilter native later filter f → (new : O) (answer : Result Bool WriteFault) (result : Result Bool Stop)
-        → CertifiesBut held failures old new native b f leave answer → result ≡ told_line answer
-        → AnswersBut held failures folder old new native bundle filter leave result
-    but_done f of_filter new answer result h e = inr (
-      b,
-      of_filter.filter,
-      of_bundle,
-      subst (λ (d : Option Folder). HasFilter native d filter of_filter.filter) same_folder of_filter.has,
-      record {
-        answer = answer;
-        written = but_of_file native b of_filter.filter f of_filter.enough leave held failures old new answer h;
-        told = e;
-      },
-    )
 
 -- what was found, without the record that was judged
 pub found_only : (native : Arch) (bundle filter : List ℕ) (answered aside : List Calls) (Is : Counterexample → Type 0) (all : List Counterexample)

@@ -15,15 +15,11 @@ use Rattle.wording.specs.declared.told.End.{End}
 use Rattle.wording.specs.declared.told.End.TheVariants as end
 use Rattle.wording.specs.declared.told.Told.{Told}
 use Rattle.maker.specs.Answer.{WritesAnswer}
-use Rattle.compare.specs.Behind.{CertifiesAllBehind, CertifiesBehind}
-use Rattle.compare.specs.Counterexamples.{TellsAll}
-use Rattle.maker.specs.Certified.{Certifies}
 use Rattle.maker.specs.Finding.{WritesFinding}
 use Rattle.cli.specs.declared.stops.Stop.{Stop}
 use Rattle.cli.specs.declared.stops.Stop.TheVariants.{OutOfMemory, Usage}
-use Rattle.cli.specs.Dispatch.{AnswersAdapt, AnswersAll, AnswersBehind, AnswersCertify, AnswersCheck, AnswersExport, AnswersManual, AnswersReplay}
-use Rattle.cli.specs.Dispatch.{AnswersAllBehind, AnswersCombined, AnswersStack, ExportsFor}
-use Rattle.cli.specs.Dispatch.{AnswersTold, AnswersVerdict, ExplainsAllBehind, StopsAtGroups, StopsAtWords}
+use Rattle.cli.specs.Dispatch.{AnswersAdapt, AnswersCheck, AnswersCombined, AnswersExport, AnswersManual, AnswersReplay, AnswersStack}
+use Rattle.cli.specs.Dispatch.{AnswersTold, AnswersVerdict, ExportsFor, StopsAtGroups, StopsAtWords}
 use Rattle.cli.specs.Grouped.{WithGroups, groups_in, others_in}
 use Rattle.cli.specs.Adapted.{AskNothing, IsMadeAs}
 use Rattle.cli.specs.Combined.{TellsCombined, TellsStack}
@@ -32,16 +28,14 @@ use Rattle.cli.specs.Told.{IsManual, IsReplayed, OfArguments, OfEach, of_none, o
 use Rattle.cli.specs.declared.adapting.OutputAndReport.{OutputAndReport}
 use Rattle.cli.specs.Dispatch.{WritesTold, outcome_by, outcome_of}
 use Rattle.texts.specs.Sink.{Wrote}
-use Rattle.cli.specs.Dispatch.{any_call, explained_as, ExplainsBehind, FirstUnread, HaveBytes, StopsAt}
+use Rattle.cli.specs.Dispatch.{any_call, explained_as, FirstUnread, HaveBytes, StopsAt}
 use Rattle.cli.specs.inner.Telling.{IsAdaptedOf, IsBundleOf, IsCombinedOf, IsInForm, IsManualOf, IsReplayOf, IsStackOf, IsToldOf, IsWithGroups, TellsOn, TellsText, told_in}
 use Rattle.together.specs.declared.way.Way.{Way}
-use Rattle.cli.specs.Explained.{TellsAllBehind, TellsBehind}
 use Rattle.cli.specs.Files.{Folder, HasBundle, HasBytes, HasEnough, HasEnoughFilter, HasFilter}
 use Rattle.cli.specs.Running.{told_line}
 use Rattle.cli.proofs.FormLaws.{stopped_grown, stopped_in, told_in_form, told_memory, told_with_groups}
 use Rattle.cli.proofs.TurnLaws.{cut_at}
-use Rattle.cli.proofs.FileLaws.{all_behind_of_file, tells_all_behind_of_file}
-use Rattle.cli.proofs.FileLaws.{behind_of_file, certified_of_file, check_of_file, tells_all_of_file, tells_of_file, verdict_of_files}
+use Rattle.cli.proofs.FileLaws.{check_of_file, verdict_of_files}
 
 abbrev pub now_of : Bor (List ℕ) → List ℕ
 now_of name = name.now
@@ -103,22 +97,6 @@ module _ {O : Type 0} (held : O → Option (List ℕ)) (failures : O → Failure
     export_done form new b result of_bundle h = inr (b, of_bundle, h)
 
     module _ (filter : List ℕ) where
-      pub certify_first : (stop : Stop) (result : Result Bool Stop) → StopsAt folder bundle stop → result ≡ Err stop
-          → AnswersCertify held failures folder old old native bundle filter result
-      certify_first stop result h e = inl (record { stop = stop; at = inl h; told = e; unwritten = refl })
-
-      pub behind_first : (stop : Stop) (result : Result Bool Stop) → StopsAt folder bundle stop → result ≡ Err stop
-          → AnswersBehind held failures folder old old native bundle filter result
-      behind_first stop result h e = inl (record { stop = stop; at = inl h; told = e; unwritten = refl })
-
-      pub all_first : (stop : Stop) (result : Result Bool Stop) → StopsAt folder bundle stop → result ≡ Err stop
-          → AnswersAll held failures folder old old native bundle filter result
-      all_first stop result h e = inl (record { stop = stop; at = inl h; told = e; unwritten = refl })
-
-      pub all_behind_first : (stop : Stop) (result : Result Bool Stop) → StopsAt folder bundle stop → result ≡ Err stop
-          → AnswersAllBehind held failures folder old old native bundle filter result
-      all_behind_first stop result h e = inl (record { stop = stop; at = inl h; told = e; unwritten = refl })
-
       pub check_first : (cert : List ℕ) (stop : Stop) (result : Result Bool Stop) → StopsAt folder bundle stop → result ≡ Err stop
           → AnswersCheck held failures folder old old native bundle filter cert result
       check_first cert stop result h e = inl (record { stop = stop; at = inl h; told = e; unwritten = refl })
@@ -129,22 +107,6 @@ module _ {O : Type 0} (held : O → Option (List ℕ)) (failures : O → Failure
         second names stop h =
             behind folder bundle of_bundle.file (filter ∷ names) stop of_bundle.is (inl (subst (λ d. StopsAt d filter stop) same h))
 
-        pub certify_second : (stop : Stop) (result : Result Bool Stop) → StopsAt later filter stop → result ≡ Err stop
-            → AnswersCertify held failures folder old old native bundle filter result
-        certify_second stop result h e = inl (record { stop = stop; at = second [] stop h; told = e; unwritten = refl })
-
-        pub behind_second : (stop : Stop) (result : Result Bool Stop) → StopsAt later filter stop → result ≡ Err stop
-            → AnswersBehind held failures folder old old native bundle filter result
-        behind_second stop result h e = inl (record { stop = stop; at = second [] stop h; told = e; unwritten = refl })
-
-        pub all_second : (stop : Stop) (result : Result Bool Stop) → StopsAt later filter stop → result ≡ Err stop
-            → AnswersAll held failures folder old old native bundle filter result
-        all_second stop result h e = inl (record { stop = stop; at = second [] stop h; told = e; unwritten = refl })
-
-        pub all_behind_second : (stop : Stop) (result : Result Bool Stop) → StopsAt later filter stop → result ≡ Err stop
-            → AnswersAllBehind held failures folder old old native bundle filter result
-        all_behind_second stop result h e = inl (record { stop = stop; at = second [] stop h; told = e; unwritten = refl })
-
         pub check_second : (cert : List ℕ) (stop : Stop) (result : Result Bool Stop) → StopsAt later filter stop → result ≡ Err stop
             → AnswersCheck held failures folder old old native bundle filter cert result
         check_second cert stop result h e = inl (record { stop = stop; at = second (cert ∷ []) stop h; told = e; unwritten = refl })
@@ -152,91 +114,6 @@ module _ {O : Type 0} (held : O → Option (List ℕ)) (failures : O → Failure
         module _ (f : List ℕ) (of_filter : HasEnoughFilter native later filter f) where
           has_filter : HasFilter native folder filter of_filter.filter
           has_filter = subst (λ d. HasFilter native d filter of_filter.filter) same of_filter.has
-
-          pub certify_done : (new : O) (answer : Result Bool WriteFault) (result : Result Bool Stop)
-              → Certifies held failures old new native b f answer → result ≡ told_line answer
-              → AnswersCertify held failures folder old new native bundle filter result
-          certify_done new answer result h e = inr (
-            b,
-            of_filter.filter,
-            of_bundle,
-            has_filter,
-            record {
-              answer = answer;
-              written = certified_of_file native b of_filter.filter f of_filter.enough held failures old new answer h;
-              told = e;
-            },
-          )
-
-          all_of : (new : O) (answer : Result Bool WriteFault)
-              → Certifies held failures old new native b f answer ⊎ TellsAll held failures old new native b f answer
-              → Certifies held failures old new native b of_filter.filter answer ⊎ TellsAll held failures old new native b of_filter.filter answer
-          all_of new answer (inl h) = inl (certified_of_file native b of_filter.filter f of_filter.enough held failures old new answer h)
-          all_of new answer (inr h) = inr (tells_all_of_file native b of_filter.filter f of_filter.enough held failures old new answer h)
-
-          pub all_done : (new : O) (answer : Result Bool WriteFault) (result : Result Bool Stop)
-              → Certifies held failures old new native b f answer ⊎ TellsAll held failures old new native b f answer
-              → result ≡ told_line answer → AnswersAll held failures folder old new native bundle filter result
-          all_done new answer result h e = inr (
-            b,
-            of_filter.filter,
-            of_bundle,
-            has_filter,
-            record { answer = answer; written = all_of new answer h; told = e },
-          )
-
-          pub behind_done : (new : O) (answer : Result Bool WriteFault) (result : Result Bool Stop)
-              → CertifiesBehind held failures old new native b f answer → result ≡ told_line answer
-              → AnswersBehind held failures folder old new native bundle filter result
-          behind_done new answer result h e = inr (
-            b,
-            of_filter.filter,
-            of_bundle,
-            has_filter,
-            record {
-              answer = answer;
-              written = behind_of_file native b of_filter.filter f of_filter.enough held failures old new answer h;
-              told = e;
-            },
-          )
-
-          pub all_behind_done : (new : O) (answer : Result Bool WriteFault) (result : Result Bool Stop)
-              → CertifiesAllBehind held failures old new native b f answer → result ≡ told_line answer
-              → AnswersAllBehind held failures folder old new native bundle filter result
-          all_behind_done new answer result h e = inr (
-            b,
-            of_filter.filter,
-            of_bundle,
-            has_filter,
-            record {
-              answer = answer;
-              written = all_behind_of_file native b of_filter.filter f of_filter.enough held failures old new answer h;
-              told = e;
-            },
-          )
-
-          pub all_behind_told : {E : Type 0} (shown : E → Option (List ℕ)) (dropped : E → Failures) (err err' : E) (new : O) (done : Bool)
-              → TellsAllBehind held failures old new shown dropped err err' native b f (Ok done)
-              → ExplainsAllBehind held failures shown dropped folder old new err err' native bundle filter (Ok done)
-          all_behind_told shown dropped err err' new done h = (
-            b,
-            of_filter.filter,
-            of_bundle,
-            has_filter,
-            tells_all_behind_of_file native b of_filter.filter f of_filter.enough held failures old new (Ok done) shown dropped err err' h,
-          )
-
-          -- what is told on standard error
-          pub behind_told : {E : Type 0} (shown : E → Option (List ℕ)) (dropped : E → Failures) (err err' : E) (new : O) (done : Bool)
-              → TellsBehind held failures old new shown dropped err err' native b f (Ok done)
-              → ExplainsBehind held failures shown dropped folder old new err err' native bundle filter (Ok done)
-          behind_told shown dropped err err' new done h = (
-            b,
-            of_filter.filter,
-            of_bundle,
-            has_filter,
-            tells_of_file native b of_filter.filter f of_filter.enough held failures old new (Ok done) shown dropped err err' h,
-          )
 
           module _ (cert : List ℕ) (last : Option Folder) (still : last ≡ later) where
             pub check_third : (stop : Stop) (result : Result Bool Stop) → StopsAt last cert stop → result ≡ Err stop

@@ -11,7 +11,6 @@ use Rattle.maker.specs.declared.make_error.MakeError.{MakeError}
 use Rattle.texts.specs.Failures.{Failures}
 use Rattle.texts.specs.Sink.{WritesMade}
 use Rattle.texts.specs.declared.streams.fault.WriteFault.{WriteFault}
-use Rattle.cli.specs.Dispatch.{ExplainsRecord}
 use Rattle.cli.specs.Explained.{HasNoRecord, MayTellWhy, TellsRecord}
 use Rattle.cli.specs.Files.{Folder, HasBundle}
 
@@ -67,18 +66,3 @@ module _ {O E : Type 0} (held : O → Option (List ℕ)) (failures : O → Failu
       → (err' ≡ err) ⊎ TellsRecord held failures out out' shown dropped err err' native bundle
   why_of true result e quiet told = inl (quiet e)
   why_of false result e quiet told = told e
-
-  -- the same of the bundle of a file
-  with_bundle : (folder : Option Folder) (name : List ℕ) → HasBundle native folder name bundle
-      → (err' ≡ err) ⊎ TellsRecord held failures out out' shown dropped err err' native bundle
-      → (err' ≡ err)
-      ⊎ ((b : List ℕ) × HasBundle native folder name b × TellsRecord held failures out out' shown dropped err err' native b)
-  with_bundle folder name has (inl same) = inl same
-  with_bundle folder name has (inr h) = inr (bundle, has, h)
-
-  pub explained_done : (folder : Option Folder) (name : List ℕ) → HasBundle native folder name bundle → (done : Bool)
-      → (result : Result Bool WriteFault) → result ≡ Ok done
-      → (result ≡ Ok false → (err' ≡ err) ⊎ TellsRecord held failures out out' shown dropped err err' native bundle)
-      → ExplainsRecord held failures shown dropped folder out out' err err' native name (Ok done)
-  explained_done folder name has true result e told = tt
-  explained_done folder name has false result e told = with_bundle folder name has (told e)

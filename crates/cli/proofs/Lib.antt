@@ -24,4 +24,5 @@ mod AuditLaws
 mod PartLaws
 pub mod ObjectLaws
 mod ButLaws
+mod CertifyLaws
 mod DoubtLaws

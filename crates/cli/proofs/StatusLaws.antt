@@ -16,8 +16,7 @@ use Rattle.command_line.specs.declared.prose.Command.TheVariants.{Certify, Check
 use Rattle.aside.specs.declared.leave.Leave.{Leave}
 use Rattle.aside.specs.Judged.{stub_calls}
 use Rattle.aside.specs.Told.{CertifiesBut, CertifiesBy, WritesAllBut, WritesBut}
-use Rattle.cli.specs.Dispatch.{AnswersAllBehind, AnswersAsked, AnswersBehind, AnswersBut, AnswersCertify, AnswersCheck, AnswersRun, Does}
-use Rattle.cli.specs.Dispatch.{asks_but, leave_of}
+use Rattle.cli.specs.Dispatch.{AnswersCertify, AnswersCheck, AnswersRun, CertifiesAs, Does, asks_but, leave_of}
 use Rattle.cli.specs.Parts.{Parts, native_of, parts_of}
 use Rattle.cli.specs.Files.{Folder, HasBundle, HasFilter}
 use Rattle.cli.specs.Running.{HasAnswered, told_line}
@@ -91,11 +90,11 @@ module _ {O : Type 0} (held : O → Option (List ℕ)) (failures : O → Failure
         right = right.1;
       }
 
-  certify_told : (folder : Option Folder) (bundle filter : List ℕ)
-      → AnswersCertify held failures folder old new native bundle filter (Ok true) → AreRight folder native bundle filter
-  certify_told folder bundle filter (inl stops) = absurd (no_error stops.told)
-  certify_told folder bundle filter (inr (b, f, of_bundle, of_filter, by)) =
-      let found = certified b f by.answer by.written by.told in
+  certify_told : (folder : Option Folder) (bundle filter b f : List ℕ) → HasBundle native folder bundle b → HasFilter native folder filter f
+      → (answer : Result Bool WriteFault) → Certifies held failures old new native b f answer → Ok true ≡ told_line answer
+      → AreRight folder native bundle filter
+  certify_told folder bundle filter b f of_bundle of_filter answer written e =
+      let found = certified b f answer written e in
       right_of folder bundle filter b f found.0 of_bundle of_filter found.1
 
   -- a certificate was written of what stands behind a stub
@@ -122,33 +121,24 @@ module _ {O : Type 0} (held : O → Option (List ℕ)) (failures : O → Failure
       let no = lacks.0 in absurd (cc)
   behind folder bundle filter b f rest answered false (Err fault) of_bundle of_filter written e = absurd (no_error e)
 
-  behind_told : (folder : Option Folder) (bundle filter : List ℕ)
-      → AnswersBehind held failures folder old new native bundle filter (Ok true)
+  behind_told : (folder : Option Folder) (bundle filter b f : List ℕ) → HasBundle native folder bundle b → HasFilter native folder filter f
+      → (answer : Result Bool WriteFault) → CertifiesBehind held failures old new native b f answer → Ok true ≡ told_line answer
       → AreRight folder native bundle filter ⊎ AreRightBehind folder native bundle filter
-  behind_told folder bundle filter (inl stops) = absurd (no_error stops.told)
-  behind_told folder bundle filter (inr (b, f, of_bundle, of_filter, by)) = go by.answer by.written by.told
-    where
-      go : (answer : Result Bool WriteFault) → CertifiesBehind held failures old new native b f answer → Ok true ≡ told_line answer
-          → AreRight folder native bundle filter ⊎ AreRightBehind folder native bundle filter
-      go answer (inl (rest, answered, whole, is, written)) e =
-          behind folder bundle filter b f rest answered whole answer of_bundle of_filter written e
-      go (Ok done) (inr lacks) e = let no = lacks.0 in absurd (cc)
-      go (Err fault) (inr lacks) e = absurd (no_error e)
+  behind_told folder bundle filter b f of_bundle of_filter answer (inl (rest, answered, whole, is, written)) e =
+      behind folder bundle filter b f rest answered whole answer of_bundle of_filter written e
+  behind_told folder bundle filter b f of_bundle of_filter (Ok done) (inr lacks) e = let no = lacks.0 in absurd (cc)
+  behind_told folder bundle filter b f of_bundle of_filter (Err fault) (inr lacks) e = absurd (no_error e)
 
-  all_behind_told : (folder : Option Folder) (bundle filter : List ℕ)
-      → AnswersAllBehind held failures folder old new native bundle filter (Ok true)
+  all_behind_told : (folder : Option Folder) (bundle filter b f : List ℕ) → HasBundle native folder bundle b → HasFilter native folder filter f
+      → (answer : Result Bool WriteFault) → CertifiesAllBehind held failures old new native b f answer → Ok true ≡ told_line answer
       → AreRight folder native bundle filter ⊎ AreRightBehind folder native bundle filter
-  all_behind_told folder bundle filter (inl stops) = absurd (no_error stops.told)
-  all_behind_told folder bundle filter (inr (b, f, of_bundle, of_filter, by)) = go by.answer by.written by.told
-    where
-      go : (answer : Result Bool WriteFault) → CertifiesAllBehind held failures old new native b f answer → Ok true ≡ told_line answer
-          → AreRight folder native bundle filter ⊎ AreRightBehind folder native bundle filter
-      go answer (inl (rest, answered, whole, is, inl written)) e =
-          behind folder bundle filter b f rest answered whole answer of_bundle of_filter written e
-      go (Ok done) (inl (rest, answered, whole, is, inr all)) e = let no : done ≡ false = all.written.told in absurd (cc)
-      go (Err fault) (inl (rest, answered, whole, is, inr all)) e = absurd (no_error e)
-      go (Ok done) (inr lacks) e = let no = lacks.0 in absurd (cc)
-      go (Err fault) (inr lacks) e = absurd (no_error e)
+  all_behind_told folder bundle filter b f of_bundle of_filter answer (inl (rest, answered, whole, is, inl written)) e =
+      behind folder bundle filter b f rest answered whole answer of_bundle of_filter written e
+  all_behind_told folder bundle filter b f of_bundle of_filter (Ok done) (inl (rest, answered, whole, is, inr all)) e =
+      let no : done ≡ false = all.written.told in absurd (cc)
+  all_behind_told folder bundle filter b f of_bundle of_filter (Err fault) (inl (rest, answered, whole, is, inr all)) e = absurd (no_error e)
+  all_behind_told folder bundle filter b f of_bundle of_filter (Ok done) (inr lacks) e = let no = lacks.0 in absurd (cc)
+  all_behind_told folder bundle filter b f of_bundle of_filter (Err fault) (inr lacks) e = absurd (no_error e)
 
   -- that others are right was written, or what is written where nothing is left aside
   module _ (folder : Option Folder) (bundle filter b f : List ℕ) (of_bundle : HasBundle native folder bundle b)
@@ -193,12 +183,14 @@ module _ {O : Type 0} (held : O → Option (List ℕ)) (failures : O → Failure
     but (Ok true) (inr lacks) e = let no = lacks.0 in absurd (cc)
     but (Err fault) h e = absurd (no_error e)
 
-  but_told : (folder : Option Folder) (bundle filter : List ℕ) (leave : Leave)
-      → AnswersBut held failures folder old new native bundle filter leave (Ok true)
-      → AreRightAtLeast folder native bundle filter leave
-  but_told folder bundle filter leave (inl stops) = absurd (no_error stops.told)
-  but_told folder bundle filter leave (inr (b, f, of_bundle, of_filter, by)) =
-      but folder bundle filter b f of_bundle of_filter leave by.answer by.written by.told
+-- if `certify` says yes, its files were read, and what it wrote is so of their bytes
+certified_as : {O : Type 0} (held : O → Option (List ℕ)) (failures : O → Failures) (folder : Option Folder) (old new : O) (p : Parts) (Holds : Type 0)
+    → ((b f : List ℕ) → HasBundle p.native folder p.two b → HasFilter p.native folder p.three f → (answer : Result Bool WriteFault)
+    → CertifiesAs held failures old new (asks_but p) p p.native b f answer → Ok true ≡ told_line answer → Holds)
+    → AnswersCertify held failures folder old new p (Ok true) → Holds
+certified_as held failures folder old new p Holds of_files (inl stops) = absurd (no_error stops.told)
+certified_as held failures folder old new p Holds of_files (inr (b, f, of_bundle, of_filter, by)) =
+    of_files b f of_bundle of_filter by.answer by.written by.told
 
 -- the answer to a script, where it is known what was read and written
 known : (native : Arch) (texts : List (List ℕ)) (left left' held held' : Option (List ℕ)) → HasAnswered native texts left left' held held'
@@ -234,19 +226,27 @@ module _ {I O : Type 0} (left : I → Option (List ℕ)) (given : I → Failures
       → Does left given held taken folder input input' out out' (Certify, machine ∷ bundle ∷ filter ∷ []) (Ok true)
       → AreRight folder (native_of machine) bundle filter
   certify_is_right machine bundle filter (inl none) = absurd (no_error none.stops)
-  certify_is_right machine bundle filter (inr does) = certify_told held taken out out' (native_of machine) folder bundle filter does.1
+  certify_is_right machine bundle filter (inr does) =
+      certified_as held taken folder out out' (parts_of (machine ∷ bundle ∷ filter ∷ [])) (AreRight folder (native_of machine) bundle filter)
+      (certify_told held taken out out' (native_of machine) folder bundle filter) does.1
 
   pub behind_is_right : (machine bundle filter : List ℕ)
       → Does left given held taken folder input input' out out' (Certify, machine ∷ bundle ∷ filter ∷ codes "runc" ∷ []) (Ok true)
       → AreRight folder (native_of machine) bundle filter ⊎ AreRightBehind folder (native_of machine) bundle filter
   behind_is_right machine bundle filter (inl none) = absurd (no_error none.stops)
-  behind_is_right machine bundle filter (inr does) = behind_told held taken out out' (native_of machine) folder bundle filter does.1
+  behind_is_right machine bundle filter (inr does) =
+      certified_as held taken folder out out' (parts_of (machine ∷ bundle ∷ filter ∷ codes "runc" ∷ []))
+      (AreRight folder (native_of machine) bundle filter ⊎ AreRightBehind folder (native_of machine) bundle filter)
+      (behind_told held taken out out' (native_of machine) folder bundle filter) does.1
 
   pub all_behind_is_right : (machine bundle filter : List ℕ)
       → Does left given held taken folder input input' out out' (Certify, machine ∷ bundle ∷ filter ∷ codes "runc" ∷ codes "all" ∷ []) (Ok true)
       → AreRight folder (native_of machine) bundle filter ⊎ AreRightBehind folder (native_of machine) bundle filter
   all_behind_is_right machine bundle filter (inl none) = absurd (no_error none.stops)
-  all_behind_is_right machine bundle filter (inr does) = all_behind_told held taken out out' (native_of machine) folder bundle filter does.1
+  all_behind_is_right machine bundle filter (inr does) =
+      certified_as held taken folder out out' (parts_of (machine ∷ bundle ∷ filter ∷ codes "runc" ∷ codes "all" ∷ []))
+      (AreRight folder (native_of machine) bundle filter ⊎ AreRightBehind folder (native_of machine) bundle filter)
+      (all_behind_told held taken out out' (native_of machine) folder bundle filter) does.1
 
   pub but_is_right : (machine bundle filter : List ℕ) (words : List (List ℕ)) → asks_but (parts_of (machine ∷ bundle ∷ filter ∷ words)) ≡ true
       → Does left given held taken folder input input' out out' (Certify, machine ∷ bundle ∷ filter ∷ words) (Ok true)
@@ -254,8 +254,11 @@ module _ {I O : Type 0} (left : I → Option (List ℕ)) (given : I → Failures
   but_is_right machine bundle filter words asks (inl none) = absurd (no_error none.stops)
   but_is_right machine bundle filter words asks (inr does) =
       let p : Parts = parts_of (machine ∷ bundle ∷ filter ∷ words) in
-      but_told held taken out out' (native_of machine) folder bundle filter (leave_of p)
-      (subst (λ (b : Bool). AnswersAsked held taken folder out out' b p (Ok true)) asks does.1)
+      certified_as held taken folder out out' p (AreRightAtLeast folder (native_of machine) bundle filter (leave_of p))
+      (λ b f of_bundle of_filter answer written e.
+      but held taken out out' (native_of machine) folder bundle filter b f of_bundle of_filter (leave_of p) answer
+      (subst (λ (x : Bool). CertifiesAs held taken out out' x p p.native b f answer) asks written) e)
+      does.1
 
   pub run_is_answered : (machine : List ℕ) (bundles : List (List ℕ))
       → Does left given held taken folder input input' out out' (Run, machine ∷ bundles) (Ok true)

@@ -230,38 +230,24 @@ module _ {O : Type 0} (held : O → Option (List ℕ)) (failures : O → Failure
       ⊎ ((b : List ℕ) × (f : List ℕ) × (c : List ℕ) × HasBundle native folder bundle b × HasFilter native folder filter f
       × HasEnough 4194304 folder cert c × AnswersBy (WritesFinding held failures old new native b f c) result)
 
-  abbrev pub AnswersCertify : Arch → List ℕ → List ℕ → Result Bool Stop → Type 0
-  AnswersCertify native bundle filter result =
-      StopsAtFile folder old new (bundle ∷ filter ∷ []) result
-      ⊎ ((b : List ℕ) × (f : List ℕ) × HasBundle native folder bundle b × HasFilter native folder filter f
-      × AnswersBy (Certifies held failures old new native b f) result)
+  -- what `certify` writes of a bundle and a filter, by whether `runc` stands behind the files, and `all`
+  abbrev pub CertifiesWith : Bool → Bool → Arch → List ℕ → List ℕ → Result Bool WriteFault → Type 0
+  CertifiesWith true true native b f answer = CertifiesAllBehind held failures old new native b f answer
+  CertifiesWith true false native b f answer = CertifiesBehind held failures old new native b f answer
+  CertifiesWith false true native b f answer =
+      Certifies held failures old new native b f answer ⊎ TellsAll held failures old new native b f answer
+  CertifiesWith false false native b f answer = Certifies held failures old new native b f answer
 
-  abbrev pub AnswersBehind : Arch → List ℕ → List ℕ → Result Bool Stop → Type 0
-  AnswersBehind native bundle filter result =
-      StopsAtFile folder old new (bundle ∷ filter ∷ []) result
-      ⊎ ((b : List ℕ) × (f : List ℕ) × HasBundle native folder bundle b × HasFilter native folder filter f
-      × AnswersBy (CertifiesBehind held failures old new native b f) result)
+  -- what it writes by whether calls may be left aside, which ones, and the other words
+  abbrev pub CertifiesAs : Bool → Parts → Arch → List ℕ → List ℕ → Result Bool WriteFault → Type 0
+  CertifiesAs true p native b f answer = CertifiesBut held failures old new native b f (leave_of p) answer
+  CertifiesAs false p native b f answer = CertifiesWith (asks_runc p) (asks_all p) native b f answer
 
-  abbrev pub AnswersAllBehind : Arch → List ℕ → List ℕ → Result Bool Stop → Type 0
-  AnswersAllBehind native bundle filter result =
-      StopsAtFile folder old new (bundle ∷ filter ∷ []) result
-      ⊎ ((b : List ℕ) × (f : List ℕ) × HasBundle native folder bundle b × HasFilter native folder filter f
-      × AnswersBy (CertifiesAllBehind held failures old new native b f) result)
-
-  -- with `all` what it writes without, or the lines of records that refute the filter
-  abbrev pub AnswersAll : Arch → List ℕ → List ℕ → Result Bool Stop → Type 0
-  AnswersAll native bundle filter result =
-      StopsAtFile folder old new (bundle ∷ filter ∷ []) result
-      ⊎ ((b : List ℕ) × (f : List ℕ) × HasBundle native folder bundle b × HasFilter native folder filter f
-      × AnswersBy (λ answer. Certifies held failures old new native b f answer
-      ⊎ TellsAll held failures old new native b f answer) result)
-
-  -- with `calls` or `without-x32`, whatever else is asked
-  abbrev pub AnswersBut : Arch → List ℕ → List ℕ → Leave → Result Bool Stop → Type 0
-  AnswersBut native bundle filter leave result =
-      StopsAtFile folder old new (bundle ∷ filter ∷ []) result
-      ⊎ ((b : List ℕ) × (f : List ℕ) × HasBundle native folder bundle b × HasFilter native folder filter f
-      × AnswersBy (CertifiesBut held failures old new native b f leave) result)
+  abbrev pub AnswersCertify : Parts → Result Bool Stop → Type 0
+  AnswersCertify p result =
+      StopsAtFile folder old new (p.two ∷ p.three ∷ []) result
+      ⊎ ((b : List ℕ) × (f : List ℕ) × HasBundle p.native folder p.two b × HasFilter p.native folder p.three f
+      × AnswersBy (CertifiesAs (asks_but p) p p.native b f) result)
 
   abbrev pub AnswersExport : Arch → List ℕ → Form → Result Bool Stop → Type 0
   AnswersExport native bundle form result =
@@ -274,18 +260,6 @@ module _ {O : Type 0} (held : O → Option (List ℕ)) (failures : O → Failure
       StopsAtFile folder old new names result
       ⊎ ((texts : List (List ℕ)) × (told : Told) × HaveBytes folder names texts × Is texts told
       × WritesTold held failures old new told result)
-
-  -- what `certify` writes, by whether `runc` stands behind the files, and `all`
-  abbrev pub AnswersCertified : Bool → Bool → Parts → Result Bool Stop → Type 0
-  AnswersCertified true true p result = AnswersAllBehind p.native p.two p.three result
-  AnswersCertified true false p result = AnswersBehind p.native p.two p.three result
-  AnswersCertified false true p result = AnswersAll p.native p.two p.three result
-  AnswersCertified false false p result = AnswersCertify p.native p.two p.three result
-
-  -- the same, by whether calls may be left aside
-  abbrev pub AnswersAsked : Bool → Parts → Result Bool Stop → Type 0
-  AnswersAsked true p result = AnswersBut p.native p.two p.three (leave_of p) result
-  AnswersAsked false p result = AnswersCertified (asks_runc p) (asks_all p) p result
 
   -- what `read` tells, by whether `rules` stands behind the file
   abbrev pub AnswersRead : Bool → Parts → Result Bool Stop → Type 0
@@ -455,7 +429,7 @@ module _ {I O : Type 0} (left : I → Option (List ℕ)) (given : I → Failures
   abbrev pub DoesWith : Command → Parts → Result Bool Stop → Type 0
   DoesWith Verdict p result = (input' ≡ input) × AnswersVerdict held taken folder out out' p.one p.two result
   DoesWith Check p result = (input' ≡ input) × AnswersCheck held taken folder out out' p.native p.two p.three p.four result
-  DoesWith Certify p result = (input' ≡ input) × AnswersAsked held taken folder out out' (asks_but p) p result
+  DoesWith Certify p result = (input' ≡ input) × AnswersCertify held taken folder out out' p result
   DoesWith Export p result = (input' ≡ input) × AnswersExport held taken folder out out' p.native p.two (form_of p.three) result
   DoesWith Run p result = AnswersRun p.native p.from_two result
   DoesWith Explain p result = AnswersExplain p result
@@ -523,43 +497,34 @@ module _ {I O : Type 0} (left : I → Option (List ℕ)) (given : I → Failures
   abbrev pub Does : Given → Result Bool Stop → Type 0
   Does asked result = IsNotBegun left given held taken folder input input' out out' result ⊎ DoesAsked (is_json asked.0) asked result
 
--- What `certify` tells if its answer is no. There is nothing on standard error. Or standard output has the line of a call record, and
--- standard error has an explanation of this very record.
+-- What `certify` tells on standard error of a bundle and a filter, if it is done, by whether `runc` stands behind the files, and `all`. With
+-- `runc` it is the same whatever the answer is. Else it is nothing if the answer is yes. If it is no, there is nothing on standard error, or
+-- standard output has the line of a call record, and standard error has an explanation of this very record.
 module _ {O E : Type 0} (held : O → Option (List ℕ)) (taken : O → Failures) (shown : E → Option (List ℕ)) (dropped : E → Failures)
-    (folder : Option Folder) (out out' : O) (err err' : E) where
-  abbrev pub ExplainsRecord : Arch → List ℕ → Result Bool Stop → Type 0
-  ExplainsRecord native bundle (Ok false) =
-      (err' ≡ err)
-      ⊎ ((b : List ℕ) × HasBundle native folder bundle b × TellsRecord held taken out out' shown dropped err err' native b)
-  ExplainsRecord native bundle other = Unit {0}
-
-  -- what `certify` with `runc` tells, whatever its answer is
-  abbrev pub ExplainsBehind : Arch → List ℕ → List ℕ → Result Bool Stop → Type 0
-  ExplainsBehind native bundle filter (Ok done) =
-      (b : List ℕ) × (f : List ℕ) × HasBundle native folder bundle b × HasFilter native folder filter f
-      × TellsBehind held taken out out' shown dropped err err' native b f (Ok done)
-  ExplainsBehind native bundle filter (Err stop) = Unit {0}
-
-  -- what it tells with `all` too
-  abbrev pub ExplainsAllBehind : Arch → List ℕ → List ℕ → Result Bool Stop → Type 0
-  ExplainsAllBehind native bundle filter (Ok done) =
-      (b : List ℕ) × (f : List ℕ) × HasBundle native folder bundle b × HasFilter native folder filter f
-      × TellsAllBehind held taken out out' shown dropped err err' native b f (Ok done)
-  ExplainsAllBehind native bundle filter (Err stop) = Unit {0}
-
-  abbrev pub ExplainsCertified : Bool → Bool → Parts → Result Bool Stop → Type 0
-  ExplainsCertified true true p result = ExplainsAllBehind p.native p.two p.three result
-  ExplainsCertified true false p result = ExplainsBehind p.native p.two p.three result
-  ExplainsCertified false true p result = Unit {0}
-  ExplainsCertified false false p result = ExplainsRecord p.native p.two result
+    (out out' : O) (err err' : E) where
+  abbrev pub ExplainsWith : Bool → Bool → Arch → List ℕ → List ℕ → Bool → Type 0
+  ExplainsWith true true native b f done = TellsAllBehind held taken out out' shown dropped err err' native b f (Ok done)
+  ExplainsWith true false native b f done = TellsBehind held taken out out' shown dropped err err' native b f (Ok done)
+  ExplainsWith false true native b f done = Unit {0}
+  ExplainsWith false false native b f true = Unit {0}
+  ExplainsWith false false native b f false = (err' ≡ err) ⊎ TellsRecord held taken out out' shown dropped err err' native b
 
   -- nothing is said of what is explained where calls may be left aside
-  abbrev pub ExplainsAsked : Bool → Parts → Result Bool Stop → Type 0
-  ExplainsAsked true p result = Unit {0}
-  ExplainsAsked false p result = ExplainsCertified (asks_runc p) (asks_all p) p result
+  abbrev pub ExplainsAs : Bool → Parts → Arch → List ℕ → List ℕ → Bool → Type 0
+  ExplainsAs true p native b f done = Unit {0}
+  ExplainsAs false p native b f done = ExplainsWith (asks_runc p) (asks_all p) native b f done
+
+module _ {O E : Type 0} (held : O → Option (List ℕ)) (taken : O → Failures) (shown : E → Option (List ℕ)) (dropped : E → Failures)
+    (folder : Option Folder) (out out' : O) (err err' : E) where
+  -- of the files
+  abbrev pub ExplainsCertify : Parts → Result Bool Stop → Type 0
+  ExplainsCertify p (Ok done) =
+      (b : List ℕ) × (f : List ℕ) × HasBundle p.native folder p.two b × HasFilter p.native folder p.three f
+      × ExplainsAs held taken shown dropped out out' err err' (asks_but p) p p.native b f done
+  ExplainsCertify p (Err stop) = Unit {0}
 
   abbrev pub ExplainsBy : Command → Parts → Result Bool Stop → Type 0
-  ExplainsBy Certify p result = ExplainsAsked (asks_but p) p result
+  ExplainsBy Certify p result = ExplainsCertify p result
   ExplainsBy other p result = Unit {0}
 
   -- where the program stops, nothing is explained

@@ -2,13 +2,9 @@
 ghost use Rattle.std.specs.Prelude.{◌≡◌, ◌⊎◌, OnErr, Ok, true};
 ghost use Rattle.compare.specs.Counterexamples.{Refutes, TellsAll};
 ghost use Rattle.maker.specs.Certified.{Certifies};
-ghost use Rattle.cli.specs.Dispatch.{AnswersAll};
 
 use crate::comparing::put_text;
-use crate::files::{Files, read_document, read_filter};
-use crate::stops::Stop;
 use compare::{counterexamples_of, explain_found, write_counterexamples};
-use machines::Arch;
 use maker::{Counterexample, Evidence, judge_bundle, write_judged};
 use profile_json::Document;
 use std::alloc::Global;
@@ -51,8 +47,8 @@ fn write_each<O: Sink, E: Sink>(
     }
 }
 
-// Writes what is judged of a bundle and a filter, and of a filter that is refuted all records that are found.
-fn judge<O: Sink, E: Sink>(
+/// Writes what is judged of a bundle and a filter, and of a filter that is refuted all records that are found.
+pub(crate) fn judge<O: Sink, E: Sink>(
     alloc: Global,
     document: &Document,
     filter: &[u8],
@@ -69,23 +65,4 @@ fn judge<O: Sink, E: Sink>(
         return write_each(alloc, document, filter, found, out, err);
     }
     write_judged(alloc, &judged, out)
-}
-
-/// Writes a certificate that a filter answers what a bundle says, or a record of each call that is found on which it does not.
-pub(crate) fn certify_all<'a, F: Files, O: Sink, E: Sink>(
-    alloc: Global,
-    native: Arch,
-    bundle: &'a str,
-    filter: &'a str,
-    files: &mut F,
-    out: &mut O,
-    err: &mut E,
-) -> Result<bool, Stop<'a>>
-    ensures answers { AnswersAll O.held O.failures (F.folder files.old) out.old out.new native bundle.entry.now filter.entry.now result }
-    ensures stopped { OnErr result (err.new ≡ err.old) }
-    ensures quiet { result ≡ Ok true → err.new ≡ err.old }
-{
-    let document = read_document(alloc, native, files, bundle)?;
-    let filter = read_filter(alloc, native, files, filter)?;
-    Ok(judge(alloc, &document, &filter, out, err)?)
 }

@@ -8,18 +8,14 @@ ghost use Rattle.maker.specs.declared.evidence.evidence.Evidence.TheVariants.{Re
 ghost use Rattle.maker.specs.evidence.Counterexample.{IsCertificate};
 ghost use Rattle.compare.specs.declared.behind_runc.stub.calls.Calls.{Calls as TheCalls};
 ghost use Rattle.maker.specs.Exported.{LacksMemory};
-ghost use Rattle.cli.specs.Dispatch.{AnswersAllBehind, ExplainsAllBehind};
 ghost use Rattle.cli.specs.Explained.{MayTellEach, TellsAllBehind};
 
 use crate::behind::lines_of;
 use crate::comparing::{put_text, tell_why};
-use crate::files::{Files, read_document, read_filter};
-use crate::stops::Stop;
 use compare::{
     Behind, Judged, behind_stub, counterexamples_behind, judge_behind, write_behind,
     write_counterexamples,
 };
-use machines::Arch;
 use maker::{Counterexample, Evidence};
 use profile_json::Document;
 use std::alloc::Global;
@@ -82,9 +78,9 @@ fn write_found<O: Sink>(
     }
 }
 
-// Writes what is judged of a filter behind a stub. It reports on standard error which calls the stub answers, and what the bundle says of
-// each record that was told. If there is no memory for these lines, nothing is written at all.
-fn judge<O: Sink, E: Sink>(
+/// Writes what is judged of a filter behind a stub. It reports on standard error which calls the stub answers, and what the bundle says of
+/// each record that was told. If there is no memory for these lines, nothing is written at all.
+pub(crate) fn judge<O: Sink, E: Sink>(
     alloc: Global,
     document: &Document,
     filter: &[u8],
@@ -115,25 +111,4 @@ fn judge<O: Sink, E: Sink>(
     put_text(lines, err);
     explain_each(alloc, document, &all, err);
     Ok(done)
-}
-
-/// Writes a certificate that a filter behind runc's stub answers what a bundle says. Or it writes a record of each call that is found on
-/// which it does not. Standard error tells which calls the stub answers.
-pub(crate) fn certify_all_behind<'a, F: Files, O: Sink, E: Sink>(
-    alloc: Global,
-    native: Arch,
-    bundle: &'a str,
-    filter: &'a str,
-    files: &mut F,
-    out: &mut O,
-    err: &mut E,
-) -> Result<bool, Stop<'a>>
-    ensures answers { AnswersAllBehind O.held O.failures (F.folder files.old) out.old out.new native bundle.entry.now filter.entry.now result }
-    ensures stopped { OnErr result (err.new ≡ err.old) }
-    ensures explained { ExplainsAllBehind O.held O.failures E.held E.failures (F.folder files.old) out.old out.new err.old err.new
-        native bundle.entry.now filter.entry.now result }
-{
-    let document = read_document(alloc, native, files, bundle)?;
-    let filter = read_filter(alloc, native, files, filter)?;
-    Ok(judge(alloc, &document, &filter, out, err)?)
 }

@@ -3,12 +3,9 @@ ghost use Rattle.std.specs.Prelude.{◌-◌, ◌≡◌, IfOk, Ok, OnErr, length,
 ghost use Rattle.machines.specs.Arch.{family_of};
 ghost use Rattle.compare.specs.Behind.{CertifiesBehind};
 ghost use Rattle.compare.specs.StubTold as told;
-ghost use Rattle.cli.specs.Dispatch.{AnswersBehind, ExplainsBehind};
 ghost use Rattle.cli.specs.Explained.{TellsBehind};
 
 use crate::comparing::{put_text, tell_found};
-use crate::files::{Files, read_document, read_filter};
-use crate::stops::Stop;
 use compare::{Behind, behind_stub, judge_behind, stub_text, write_behind};
 use machines::Arch;
 use profile_json::Document;
@@ -30,9 +27,9 @@ pub(crate) fn lines_of(
     stub_text(alloc, native.family(), size, &behind.answered, whole)
 }
 
-// Writes what is judged of a filter behind a stub. It reports on standard error which calls the stub answers, and what the bundle says of
-// the record that was told, if one was. If there is no memory for these lines, nothing is written at all.
-fn judge<O: Sink, E: Sink>(
+/// Writes what is judged of a filter behind a stub. It reports on standard error which calls the stub answers, and what the bundle says of
+/// the record that was told, if one was. If there is no memory for these lines, nothing is written at all.
+pub(crate) fn judge<O: Sink, E: Sink>(
     alloc: Global,
     document: &Document,
     filter: &[u8],
@@ -59,25 +56,4 @@ fn judge<O: Sink, E: Sink>(
     put_text(lines, err);
     tell_found(alloc, document, &judged.evidence, err);
     Ok(done)
-}
-
-/// Writes a certificate that a filter behind runc's stub answers what a bundle says, or what tells that it has none. Standard error
-/// tells which calls the stub answers.
-pub(crate) fn certify_behind<'a, F: Files, O: Sink, E: Sink>(
-    alloc: Global,
-    native: Arch,
-    bundle: &'a str,
-    filter: &'a str,
-    files: &mut F,
-    out: &mut O,
-    err: &mut E,
-) -> Result<bool, Stop<'a>>
-    ensures answers { AnswersBehind O.held O.failures (F.folder files.old) out.old out.new native bundle.entry.now filter.entry.now result }
-    ensures stopped { OnErr result (err.new ≡ err.old) }
-    ensures explained { ExplainsBehind O.held O.failures E.held E.failures (F.folder files.old) out.old out.new err.old err.new
-        native bundle.entry.now filter.entry.now result }
-{
-    let document = read_document(alloc, native, files, bundle)?;
-    let filter = read_filter(alloc, native, files, filter)?;
-    Ok(judge(alloc, &document, &filter, out, err)?)
 }

@@ -6,15 +6,10 @@ ghost use Rattle.aside.specs.Told.{AreFoundBut, CertifiesBut};
 ghost use Rattle.compare.specs.Behind.{IsBehind};
 ghost use Rattle.maker.specs.declared.evidence.evidence.Counterexample.{Counterexample as TheCounterexample};
 ghost use Rattle.maker.specs.declared.evidence.evidence.Evidence.TheVariants.{Refuting};
-ghost use Rattle.cli.specs.Dispatch.{AnswersBut, asks_runc, leave_of};
-ghost use Rattle.cli.specs.Parts.{read};
 
 use crate::all_behind::explain_each;
 use crate::behind::lines_of;
 use crate::comparing::{put_text, tell_found};
-use crate::files::{Files, read_document, read_filter};
-use crate::parts::{Parts, asks, leave_of};
-use crate::stops::Stop;
 use aside::{JudgedAside, Leave, counterexamples_but, judge_but, write_found};
 use compare::{Behind, behind_stub};
 use machines::Arch;
@@ -23,11 +18,11 @@ use profile_json::Document;
 use std::alloc::{AllocError, Global};
 use texts::{Sink, WriteFault};
 
-// What is asked beside the calls that may be left aside.
+/// What is asked beside the calls that may be left aside.
 #[derive(Clone, Copy)]
-struct Asked {
-    runc: bool,
-    all: bool,
+pub(crate) struct Asked {
+    pub(crate) runc: bool,
+    pub(crate) all: bool,
 }
 
 // The filter behind a stub, if this is asked for, and else the whole filter.
@@ -103,8 +98,8 @@ fn tell<E: Sink>(
     }
 }
 
-// Writes what is judged of a filter where calls may be left aside. If there is no memory for what is told of it, nothing is written at all.
-fn judge<O: Sink, E: Sink>(
+/// Writes what is judged of a filter where calls may be left aside. If there is no memory for what is told of it, nothing is written at all.
+pub(crate) fn judge<O: Sink, E: Sink>(
     alloc: Global,
     document: &Document,
     filter: &[u8],
@@ -143,28 +138,4 @@ fn judge<O: Sink, E: Sink>(
     }
     tell(alloc, document, lines, &but, &all, err);
     Ok(done)
-}
-
-/// Certifies a filter where calls may be left aside, as the words behind the files ask.
-pub(crate) fn certify_but<'a, F: Files, O: Sink, E: Sink>(
-    alloc: Global,
-    parts: Parts<'a>,
-    files: &mut F,
-    out: &mut O,
-    err: &mut E,
-) -> Result<bool, Stop<'a>>
-    ensures answers { AnswersBut O.held O.failures (F.folder files.old) out.old out.new parts.entry.native parts.entry.two.now
-        parts.entry.three.now (leave_of (read parts.entry)) result }
-    ensures stopped { OnErr result (err.new ≡ err.old) }
-    ensures quiet { result ≡ Ok true → (asks_runc (read parts.entry) ≡ true) ⊎ (err.new ≡ err.old) }
-{
-    let asked = Asked {
-        runc: asks(&parts, "runc"),
-        all: asks(&parts, "all"),
-    };
-    let leave = leave_of(&parts);
-    let native = parts.native;
-    let document = read_document(alloc, native, files, parts.two)?;
-    let filter = read_filter(alloc, parts.native, files, parts.three)?;
-    Ok(judge(alloc, &document, &filter, leave, asked, out, err)?)
 }

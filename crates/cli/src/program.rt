@@ -12,7 +12,7 @@ ghost use Rattle.cli.specs.Statuses.{AreRight, AreRightAtLeast, AreRightBehind, 
 ghost use Rattle.cli.specs.Stop.{ends_told};
 
 use crate::adapting::adapted;
-use crate::certifying::certify_asked;
+use crate::certifying::certify;
 use crate::combining::{combined, stacked};
 use crate::ending::status_on;
 use crate::explaining::explain;
@@ -153,7 +153,7 @@ fn obey<'a, F: Files, I: Source, O: Sink, E: Sink>(
             files,
             out,
         ),
-        Command::Certify => certify_asked(alloc, parts, files, out, err),
+        Command::Certify => certify(alloc, parts, files, out, err),
         Command::Export => export(alloc, native, parts.two, form_of(parts.three), files, out),
         Command::Run => run(alloc, native, parts.from_two, files, input, out),
         Command::Explain => {
