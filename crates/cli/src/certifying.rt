@@ -4,11 +4,11 @@ ghost use Rattle.cli.specs.Parts.{read};
 ghost use Rattle.cli.specs.Dispatch.{AnswersCertify, CertifiesAs, CertifiesWith, ExplainsAs, ExplainsCertify, ExplainsWith};
 ghost use Rattle.cli.specs.Dispatch.{asks_all, asks_but, asks_runc};
 
-use crate::but::Asked;
 use crate::files::{Files, read_document, read_filter};
+use crate::leaving_aside::CertifyOptions;
 use crate::parts::{Parts, asks, asks_but, leave_of};
 use crate::stops::Stop;
-use crate::{all, all_behind, behind, but, comparing};
+use crate::{all, all_behind, behind, comparing, leaving_aside};
 use profile_json::Document;
 use std::alloc::Global;
 use texts::{Sink, WriteFault};
@@ -18,7 +18,7 @@ fn judge_with<O: Sink, E: Sink>(
     alloc: Global,
     document: &Document,
     filter: &[u8],
-    asked: Asked,
+    asked: CertifyOptions,
     out: &mut O,
     err: &mut E,
 ) -> Result<bool, WriteFault>
@@ -58,12 +58,12 @@ fn judge_as<O: Sink, E: Sink>(
     ensures explained { IfOk result (ExplainsAs O.held O.failures E.held E.failures out.old out.new err.old err.new
         (asks_but (read parts.now)) (read parts.now) document.now.native document.now.bytes filter.now) }
 {
-    let asked = Asked {
+    let asked = CertifyOptions {
         runc: asks(parts, "runc"),
         all: asks(parts, "all"),
     };
     if asks_but(parts) {
-        return but::judge(alloc, document, filter, leave_of(parts), asked, out, err);
+        return leaving_aside::judge(alloc, document, filter, leave_of(parts), asked, out, err);
     }
     judge_with(alloc, document, filter, asked, out, err)
 }

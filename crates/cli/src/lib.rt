@@ -8,7 +8,6 @@ mod all_behind;
 mod auditing;
 mod behind;
 mod beside;
-mod but;
 mod certifying;
 mod combining;
 mod comparing;
@@ -21,6 +20,7 @@ mod flattening;
 mod forms;
 mod grouping;
 mod law;
+mod leaving_aside;
 mod logs;
 mod manual;
 mod naming;
@@ -33,7 +33,7 @@ mod reviewing;
 mod run;
 mod showing;
 mod stops;
-mod telling;
+mod text_commands;
 mod widening;
 
 pub use command_line::{

@@ -32,7 +32,7 @@ use crate::reviewing::review_as;
 use crate::run::run_bundles;
 use crate::showing::{annotated, describe, drawn, rules};
 use crate::stops::Stop;
-use crate::telling::{assembled, compare_as, linted, record, tell, tell_both};
+use crate::text_commands::{assembled, compare_as, linted, record, tell, tell_both};
 use command_line::{Command, CommandLine, read_arguments};
 use machines::Arch;
 use maker::{check_line, verdict_line};

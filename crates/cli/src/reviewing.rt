@@ -13,7 +13,7 @@ use crate::exporting::exported;
 use crate::files::{Files, read_document};
 use crate::parts::{Form, Parts};
 use crate::stops::Stop;
-use crate::telling::{reviewed, tell};
+use crate::text_commands::{reviewed, tell};
 use byte_order::read_as;
 use machines::Arch;
 use page::{Side, page_of_one, page_of_two};

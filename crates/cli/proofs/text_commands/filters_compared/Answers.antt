@@ -3,7 +3,7 @@ use Rattle.byte_order.specs.Turned.{read_as}
 use Rattle.compare.specs.FiltersTold.{IsTold}
 use Rattle.cli.specs.Files.{HasBytes}
 use Rattle.cli.proofs.DispatchLaws.{told_both}
-use Rattle.cli.proofs.telling.filters_compared.Goals as goal
+use Rattle.cli.proofs.text_commands.filters_compared.Goals as goal
 
 pub returns-in-Ok : goal.returns-in-Ok
 returns-in-Ok g c =

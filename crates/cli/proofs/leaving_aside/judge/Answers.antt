@@ -5,7 +5,7 @@ use Rattle.maker.specs.declared.evidence.evidence.Evidence.TheVariants.{Refuting
 use Rattle.aside.specs.Judged.{stub_calls}
 use Rattle.aside.specs.Told.{AreFoundBut}
 use Rattle.cli.proofs.ButLaws.{found_only}
-use Rattle.cli.proofs.but.judge.Goals as goal
+use Rattle.cli.proofs.leaving_aside.judge.Goals as goal
 
 pub returns-in-Err-clause-written : goal.returns-in-Err-clause-written
 returns-in-Err-clause-written g c = inr (refl, refl)

@@ -1,7 +1,7 @@
 use Rattle.std.specs.Prelude.{Ok}
 use Rattle.review.specs.Reviewed.{IsReviewed}
 use Rattle.cli.proofs.BundleLaws.{told_document}
-use Rattle.cli.proofs.telling.reviewed.Goals as goal
+use Rattle.cli.proofs.text_commands.reviewed.Goals as goal
 
 pub returns-in-Ok-review : goal.returns-in-Ok-review
 returns-in-Ok-review g c =

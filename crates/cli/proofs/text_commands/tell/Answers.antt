@@ -1,7 +1,7 @@
 use Rattle.std.proofs.Common.{refl, subst}
 use Rattle.texts.specs.Sink.{Wrote}
 use Rattle.cli.proofs.DispatchLaws.{written_as}
-use Rattle.cli.proofs.telling.tell.Goals as goal
+use Rattle.cli.proofs.text_commands.tell.Goals as goal
 
 pub returns-in-Ok-write_all : goal.returns-in-Ok-write_all
 returns-in-Ok-write_all g c =

@@ -4,7 +4,7 @@ use Rattle.machines.specs.declared.arch.Arch.{Arch}
 use Rattle.cli.specs.Compared.{TellsCompared}
 use Rattle.cli.specs.Files.{HasBundle}
 use Rattle.cli.proofs.BundleLaws.{told_bundle}
-use Rattle.cli.proofs.telling.compared_with.Goals as goal
+use Rattle.cli.proofs.text_commands.compared_with.Goals as goal
 
 pub returns-in-Ok-compared_beside : goal.returns-in-Ok-compared_beside
 returns-in-Ok-compared_beside g c =

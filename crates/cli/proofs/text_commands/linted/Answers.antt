@@ -1,7 +1,7 @@
 use Rattle.std.specs.Prelude.{Ok}
 use Rattle.cli.specs.Read.{TellsLinted}
 use Rattle.cli.proofs.BundleLaws.{told_document}
-use Rattle.cli.proofs.telling.linted.Goals as goal
+use Rattle.cli.proofs.text_commands.linted.Goals as goal
 
 pub returns-in-Ok-linted_text : goal.returns-in-Ok-linted_text
 returns-in-Ok-linted_text g c =

@@ -8,7 +8,7 @@ use Rattle.cli.specs.inner.Telling.{IsToldOf}
 use Rattle.cli.specs.Dispatch.{AnswersCompare}
 use Rattle.cli.specs.Parts.{read}
 use Rattle.cli.proofs.DispatchLaws.{answers_told}
-use Rattle.cli.proofs.telling.compare_as.Goals as goal
+use Rattle.cli.proofs.text_commands.compare_as.Goals as goal
 
 pub returns-then-eq : goal.returns-then-eq
 returns-then-eq g c =

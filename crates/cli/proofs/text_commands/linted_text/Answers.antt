@@ -3,7 +3,7 @@ use Rattle.machines.specs.declared.arch.Arch.{Arch}
 use Rattle.wording.proofs.Results.{if_ok_weaker}
 use Rattle.show.specs.Unread.{RefusesUnread}
 use Rattle.cli.specs.Read.{HasNames, TellsLinted}
-use Rattle.cli.proofs.telling.linted_text.Goals as goal
+use Rattle.cli.proofs.text_commands.linted_text.Goals as goal
 
 pub returns : goal.returns
 returns c =

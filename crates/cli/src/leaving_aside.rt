@@ -20,7 +20,7 @@ use texts::{Sink, WriteFault};
 
 /// What is asked beside the calls that may be left aside.
 #[derive(Clone, Copy)]
-pub(crate) struct Asked {
+pub(crate) struct CertifyOptions {
     pub(crate) runc: bool,
     pub(crate) all: bool,
 }
@@ -104,7 +104,7 @@ pub(crate) fn judge<O: Sink, E: Sink>(
     document: &Document,
     filter: &[u8],
     leave: Leave,
-    asked: Asked,
+    asked: CertifyOptions,
     out: &mut O,
     err: &mut E,
 ) -> Result<bool, WriteFault>

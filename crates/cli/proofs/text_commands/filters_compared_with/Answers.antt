@@ -1,6 +1,6 @@
 use Rattle.std.proofs.Common.{ℕ, List, [], ◌∷◌, subst, sym}
 use Rattle.cli.specs.Files.{HasBytes}
-use Rattle.cli.proofs.telling.filters_compared_with.Goals as goal
+use Rattle.cli.proofs.text_commands.filters_compared_with.Goals as goal
 
 pub returns-in-Ok-filters_told : goal.returns-in-Ok-filters_told
 returns-in-Ok-filters_told g c = (

@@ -1,6 +1,6 @@
 use Rattle.std.proofs.Common.{ℕ, List, [], ◌∷◌, subst, sym}
 use Rattle.cli.specs.Files.{HasBytes}
-use Rattle.cli.proofs.telling.assembled.Goals as goal
+use Rattle.cli.proofs.text_commands.assembled.Goals as goal
 
 pub returns-in-Ok-assembled : goal.returns-in-Ok-assembled
 returns-in-Ok-assembled g c = (

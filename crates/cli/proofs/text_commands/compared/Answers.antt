@@ -1,6 +1,6 @@
 use Rattle.cli.proofs.BundleLaws.{told_documents}
 use Rattle.cli.specs.Compared.{TellsCompared}
-use Rattle.cli.proofs.telling.compared.Goals as goal
+use Rattle.cli.proofs.text_commands.compared.Goals as goal
 
 pub returns-in-Ok : goal.returns-in-Ok
 returns-in-Ok g c =
