@@ -1,5 +1,5 @@
 -- What `certify` does: its files are read, or the program stops, and what is written of the bytes that are read is so of the files.
-use Rattle.std.proofs.Common.{◌≡◌, ◌⊎◌, ℕ, inl, inr, List, [], ◌∷◌, refl, subst, tt}
+use Rattle.std.proofs.Common.{◌≡◌, ◌⊎◌, ℕ, inl, inr, List, [], ◌∷◌, refl, subst, sym}
 use Rattle.std.specs.Prelude.{Bool, true, false, IfOk, Option, Result, Ok, Err}
 use Rattle.machines.specs.declared.arch.Arch.{Arch}
 use Rattle.texts.specs.Failures.{Failures}
@@ -15,6 +15,38 @@ use Rattle.cli.proofs.ButLaws.{but_of_file}
 use Rattle.cli.proofs.DispatchLaws.{second}
 use Rattle.cli.proofs.FileLaws.{all_behind_of_file, behind_of_file, certified_of_file, tells_all_behind_of_file, tells_all_of_file, tells_of_file}
 
+-- what is written and told of a bundle's and a filter's bytes, by the words behind the files
+module _ {O : Type 0} (held : O → Option (List ℕ)) (failures : O → Failures) (old new : O) (native : Arch) (b f : List ℕ) where
+  pub with_words : (runc all r a : Bool) → runc ≡ r → all ≡ a → (answer : Result Bool WriteFault)
+      → CertifiesWith held failures old new r a native b f answer → CertifiesWith held failures old new runc all native b f answer
+  with_words runc all r a e d answer h =
+      subst (λ (x : Bool). CertifiesWith held failures old new x all native b f answer) (sym e)
+      (subst (λ (y : Bool). CertifiesWith held failures old new r y native b f answer) (sym d) h)
+
+  module _ {E : Type 0} (shown : E → Option (List ℕ)) (dropped : E → Failures) (err err' : E) where
+    pub explained_words : (runc all r a : Bool) → runc ≡ r → all ≡ a → (result : Result Bool WriteFault)
+        → IfOk result (ExplainsWith held failures shown dropped old new err err' r a native b f)
+        → IfOk result (ExplainsWith held failures shown dropped old new err err' runc all native b f)
+    explained_words runc all r a e d result h =
+        subst (λ (x : Bool). IfOk result (ExplainsWith held failures shown dropped old new err err' x all native b f)) (sym e)
+        (subst (λ (y : Bool). IfOk result (ExplainsWith held failures shown dropped old new err err' r y native b f)) (sym d) h)
+
+    -- Without `runc` and `all` nothing is told of a yes. Of a no nothing is, or the record that was written is explained.
+    pub explained_plain : (result : Result Bool WriteFault)
+        → (result ≡ Ok false → (err' ≡ err) ⊎ TellsRecord held failures old new shown dropped err err' native b)
+        → IfOk result (ExplainsWith held failures shown dropped old new err err' false false native b f)
+    explained_plain (Ok true) told = tt
+    explained_plain (Ok false) told = told refl
+    explained_plain (Err fault) told = tt
+
+    -- nothing is said of what is explained where calls may be left aside
+    pub explained_aside : (but : Bool) → but ≡ true → (p : Parts) (result : Result Bool WriteFault)
+        → IfOk result (ExplainsAs held failures shown dropped old new err err' but p native b f)
+    explained_aside true e p (Ok done) = tt
+    explained_aside true e p (Err fault) = tt
+    explained_aside false e p result = absurd (cc)
+
+-- what is written of the bytes that are read is so of the file
 module _ {O : Type 0} (held : O → Option (List ℕ)) (failures : O → Failures) (old new : O) (native : Arch) (b filter f : List ℕ)
     (enough : IsEnough 32768 filter f) where
   with_file : (runc all : Bool) (answer : Result Bool WriteFault) → CertifiesWith held failures old new runc all native b f answer
@@ -39,14 +71,6 @@ module _ {O : Type 0} (held : O → Option (List ℕ)) (failures : O → Failure
     explained_with false true done h = tt
     explained_with false false true h = tt
     explained_with false false false h = h
-
-    -- Without `runc` and `all` nothing is told of a yes. Of a no nothing is, or the record that was written is explained.
-    pub explained_plain : (result : Result Bool WriteFault)
-        → (result ≡ Ok false → (err' ≡ err) ⊎ TellsRecord held failures old new shown dropped err err' native b)
-        → IfOk result (ExplainsWith held failures shown dropped old new err err' false false native b f)
-    explained_plain (Ok true) told = tt
-    explained_plain (Ok false) told = told refl
-    explained_plain (Err fault) told = tt
 
     explained_as_file : (but : Bool) (p : Parts) (done : Bool)
         → ExplainsAs held failures shown dropped old new err err' but p native b f done

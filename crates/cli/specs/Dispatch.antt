@@ -215,6 +215,19 @@ module _ {O : Type 0} (held : O → Option (List ℕ)) (failures : O → Failure
   ExportsFor true native bundle form result = ExportsTurned native bundle form result
   ExportsFor false native bundle form result = AnswersBy (Exports held failures old new native bundle form) result
 
+  -- what `certify` writes of a bundle and a filter, by whether `runc` stands behind the files, and `all`
+  abbrev pub CertifiesWith : Bool → Bool → Arch → List ℕ → List ℕ → Result Bool WriteFault → Type 0
+  CertifiesWith true true native b f answer = CertifiesAllBehind held failures old new native b f answer
+  CertifiesWith true false native b f answer = CertifiesBehind held failures old new native b f answer
+  CertifiesWith false true native b f answer =
+      Certifies held failures old new native b f answer ⊎ TellsAll held failures old new native b f answer
+  CertifiesWith false false native b f answer = Certifies held failures old new native b f answer
+
+  -- what it writes by whether calls may be left aside, which ones, and the other words
+  abbrev pub CertifiesAs : Bool → Parts → Arch → List ℕ → List ℕ → Result Bool WriteFault → Type 0
+  CertifiesAs true p native b f answer = CertifiesBut held failures old new native b f (leave_of p) answer
+  CertifiesAs false p native b f answer = CertifiesWith (asks_runc p) (asks_all p) native b f answer
+
 -- what the commands write that judge the bytes of files
 module _ {O : Type 0} (held : O → Option (List ℕ)) (failures : O → Failures) (folder : Option Folder) (old new : O) where
   abbrev pub AnswersVerdict : List ℕ → List ℕ → Result Bool Stop → Type 0
@@ -230,24 +243,11 @@ module _ {O : Type 0} (held : O → Option (List ℕ)) (failures : O → Failure
       ⊎ ((b : List ℕ) × (f : List ℕ) × (c : List ℕ) × HasBundle native folder bundle b × HasFilter native folder filter f
       × HasEnough 4194304 folder cert c × AnswersBy (WritesFinding held failures old new native b f c) result)
 
-  -- what `certify` writes of a bundle and a filter, by whether `runc` stands behind the files, and `all`
-  abbrev pub CertifiesWith : Bool → Bool → Arch → List ℕ → List ℕ → Result Bool WriteFault → Type 0
-  CertifiesWith true true native b f answer = CertifiesAllBehind held failures old new native b f answer
-  CertifiesWith true false native b f answer = CertifiesBehind held failures old new native b f answer
-  CertifiesWith false true native b f answer =
-      Certifies held failures old new native b f answer ⊎ TellsAll held failures old new native b f answer
-  CertifiesWith false false native b f answer = Certifies held failures old new native b f answer
-
-  -- what it writes by whether calls may be left aside, which ones, and the other words
-  abbrev pub CertifiesAs : Bool → Parts → Arch → List ℕ → List ℕ → Result Bool WriteFault → Type 0
-  CertifiesAs true p native b f answer = CertifiesBut held failures old new native b f (leave_of p) answer
-  CertifiesAs false p native b f answer = CertifiesWith (asks_runc p) (asks_all p) native b f answer
-
   abbrev pub AnswersCertify : Parts → Result Bool Stop → Type 0
   AnswersCertify p result =
       StopsAtFile folder old new (p.two ∷ p.three ∷ []) result
       ⊎ ((b : List ℕ) × (f : List ℕ) × HasBundle p.native folder p.two b × HasFilter p.native folder p.three f
-      × AnswersBy (CertifiesAs (asks_but p) p p.native b f) result)
+      × AnswersBy (CertifiesAs held failures old new (asks_but p) p p.native b f) result)
 
   abbrev pub AnswersExport : Arch → List ℕ → Form → Result Bool Stop → Type 0
   AnswersExport native bundle form result =

@@ -1,6 +1,8 @@
 use Rattle.std.proofs.Common.{◌∙◌, ap, refl, subst, sym}
 use Rattle.std.specs.Prelude.{Err, Ok}
 use Rattle.std.proofs.lemmas.Result.{err_from_is_err_and}
+use Rattle.machines.specs.declared.arch.Arch.{Arch}
+use Rattle.maker.specs.Finding.{WritesFinding}
 use Rattle.cli.specs.Files.{HasEnough, HasEnoughFilter}
 use Rattle.cli.proofs.DispatchLaws.{check_done, check_first, check_second, check_third}
 use Rattle.cli.proofs.program.check.Goals as goal
@@ -41,7 +43,9 @@ returns-in_err-check_line g c =
     c.deref-2.result.now (Err c.in_err-check_line.field-0.0) c.from_residual-in_err-check_line.result
     (subst (λ b. HasEnough 4194304 (g.F.Files.folder c.read_filter.new.files) c.args.certificate.now b) (sym c.deref-2.ensures.value)
     c.in_ok-certificate.ensures.ok)
-    (rw c.in_ok-document.ensures.ok.machine at c.in_err-check_line.ensures) (told.1 ∙ ap Err told.2)
+    (subst (λ (n : Arch). WritesFinding g.O.Sink.held g.O.Sink.failures c.args.out.now c.check_line.new.sink n c.in_ok-document.document.bytes
+    c.deref.result.now c.deref-2.result.now (Err c.in_err-check_line.field-0.0)) c.in_ok-document.ensures.ok.machine c.in_err-check_line.ensures)
+    (told.1 ∙ ap Err told.2)
 
 pub returns : goal.returns
 returns g c =
@@ -54,4 +58,5 @@ returns g c =
     c.deref-2.result.now (Ok c.in_ok-check_line.field-0) (Ok c.in_ok-check_line.field-0)
     (subst (λ b. HasEnough 4194304 (g.F.Files.folder c.read_filter.new.files) c.args.certificate.now b) (sym c.deref-2.ensures.value)
     c.in_ok-certificate.ensures.ok)
-    (rw c.in_ok-document.ensures.ok.machine at c.in_ok-check_line.ensures) refl
+    (subst (λ (n : Arch). WritesFinding g.O.Sink.held g.O.Sink.failures c.args.out.now c.check_line.new.sink n c.in_ok-document.document.bytes
+    c.deref.result.now c.deref-2.result.now (Ok c.in_ok-check_line.field-0)) c.in_ok-document.ensures.ok.machine c.in_ok-check_line.ensures) refl
