@@ -49,17 +49,16 @@ struct rule {
     struct ccell_condition conditions[ARGUMENTS]; /* in the order of arguments */
     uint32_t left_out; /* machines on which libseccomp leaves it out of socketcall or ipc: `judge_in_ways` */
     uint32_t lost, settles; /* machines of `machines_that_lose` and of `machines_that_settle` */
-    bool is_open;           /* `lost` is not known yet: all rules of the call had one action */
+    bool is_open;           /* `lost` is not known yet: all rules of the call had one action, or none of them could be lost */
     bool were_unlike, had_whole, could_lose; /* what its call had before it: `struct of_call` */
-    uint32_t before;        /* the place of the last rule before it of its call, counted from 1 */
-    uint32_t alike;         /* the same of those that have its slot in `conditions` */
-    uint32_t on_argument;   /* the same of those of its call whose `first_equal` is its own */
-    uint32_t of_number;     /* the same of those that have its slot in `numbers` */
+    /* Places of rules before it, counted from 1, or 0: the last one of its call, the last one in its slot of `conditions`, the last one of
+     * its call with its `first_equal`, and the last one in its slot of `numbers`. */
+    uint32_t before, alike, on_argument, of_number;
 };
 
-/* The rules of a call: the place of the last one, counted from 1, or 0; the same of those with each `first_equal`; whether they have
- * several actions; whether one has no conditions; and whether libseccomp may lose one beside another: not where all have as many
- * conditions, and none is `is_at_risk`. */
+/* The rules of a call: whether they have several actions; whether one has no conditions; whether libseccomp may lose one beside another: it
+ * may not where all have equally many conditions, and none is `is_at_risk`; and the places, counted from 1, or 0, of the last one and of
+ * the last one with each `first_equal`. */
 struct of_call { bool is_taken, are_unlike, has_whole, can_lose; int call, number; uint32_t last, on_argument[ARGUMENTS + 1]; };
 
 struct state { uint32_t attributes[ATTRIBUTES], machines; size_t count; };
@@ -76,7 +75,7 @@ struct filter {
     struct of_call *calls; /* twice as many slots, each taken by a call or free */
     size_t called;         /* how many are taken */
     uint32_t *conditions;  /* of each slot the place of its last rule with the same conditions, counted from 1 */
-    uint32_t *numbers;     /* the same of rules whose first condition is `==` with the same number */
+    uint32_t *numbers;     /* of each slot the place of its last rule whose first condition is `==`, counted from 1 */
     uint8_t *bytes; /* CCELL_MOST_BYTES, once a filter was made */
     size_t length;  /* 0: none is made of what stands here now */
     bool notifies;  /* SCMP_ACT_NOTIFY was its default or a rule's, so that it is loaded with a listener */
@@ -109,8 +108,8 @@ size_t rule_before(const struct filter *filter, int call, int number, size_t pla
 /* The place, counted from 1, of the last rule before another one, or before one that is to come where that is 0, that may have the call and
  * the conditions of a rule; 0 where there is none. */
 size_t alike_before(const struct filter *filter, const struct rule *rule, size_t place);
-/* A walk over the rules that may match a call of a given rule, the last one first: all rules of that call, but those that want another
- * number where the rule has its first condition. */
+/* A walk over the rules that may match a call of a given rule, the last one first: all rules of that call, but where its first condition is
+ * `==` not those whose first condition is `==` on that argument with another number. No rule may be added or dropped meanwhile. */
 struct walk { const struct filter *filter; const struct rule *beside; uint32_t at[ARGUMENTS + 1]; };
 struct walk walk_beside(const struct filter *filter, const struct rule *rule);
 const struct rule *next_beside(struct walk *walk); /* NULL behind the first rule */

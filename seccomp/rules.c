@@ -108,7 +108,8 @@ size_t alike_before(const struct filter *filter, const struct rule *rule, size_t
     return place ? filter->rules[place - 1].alike : *slot_of_conditions(filter, rule);
 }
 
-/* The first place, from one on, in a slot of `numbers` whose rule has the call and the number of another one; 0 where there is none. */
+/* The first place, from one on, in a slot of `numbers` whose rule has the call of another one and begins with its `==`; 0 where there is
+ * none. */
 static uint32_t same_number(const struct filter *filter, const struct rule *rule, uint32_t at) {
     for (; at; at = filter->rules[at - 1].of_number) {
         const struct rule *old = &filter->rules[at - 1];
