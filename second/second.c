@@ -13,6 +13,7 @@
 #include <string.h>
 #define ALL 0xffffffffu
 enum { MOST_BYTES = 4194304, MOST_INSTRUCTIONS = 4096, MOST_NODES = 16384, MOST_ENTRIES = 65536, MOST_HELD = 512, MOST_RULES = 8192 };
+enum { MOST_WORK = 6291456 };         /* for the machines of linux-.. */
 enum { FORM_1_ENTRIES = MOST_BYTES / 10 }; /* a literal of form 1 has ten bytes */
 
 /* ---- Files and answers ---- */
@@ -113,6 +114,7 @@ static void take_condition(struct condition *condition) {
     need(operator != MASKED_EQ || (condition->data & ~value) == 0);
 }
 
+static uint32_t weight_of(unsigned rule) { return 1 + rules[rule].conditions; }
 static uint64_t key_of(unsigned rule) { return (uint64_t)machines[rules[rule].machine].token << 32 | rules[rule].number; }
 /* Whether the lines of two rules are the same. */
 static bool is_same_rule(unsigned one, unsigned two) {
@@ -220,6 +222,9 @@ static void read_profile(const char *name, const char *native) {
 /* ---- The filter, and the kernel's check ---- */
 static struct instruction { uint16_t code; uint8_t taken, not_taken; uint32_t k; } filter[MOST_INSTRUCTIONS];
 static unsigned filter_length;
+/* What is wrong with the filter, and where. It is told when the certificate was read, since the work of that comes first. */
+static const char *filter_fault;
+static int filter_place = -1;
 /* The three lowest bits of a code are its class. A jump or arithmetic has an operand, X or `k`, and an operation. */
 enum { ALU = 4, JUMP = 5, RET = 6, OPERAND_X = 8, OPERATION = 0xf0, AND = 0x50, JA = 0x05, JEQ = 0x10, JGT = 0x20, JGE = 0x30 };
 enum { LOAD = 0x20, LOAD_A = 0x60, LOAD_X = 0x61, STORE_A = 0x02, STORE_X = 0x03, RET_K = 0x06 };
@@ -243,16 +248,18 @@ static const char *cause_at(unsigned pc) {
     return pc == filter_length - 1 && class_of(i) != RET ? "no 2 Kernel 5 End pc" : NULL;
 }
 
-static void check_kernel(void) {
+static const char *kernel_fault(int *place) {
     static uint16_t unwritten[MOST_INSTRUCTIONS] = {0xffff}; /* the scratch words that some path to a position did not write */
-    for (unsigned pc = 0; pc < filter_length; pc++) if (cause_at(pc)) answer(cause_at(pc), (int)pc);
-    for (unsigned pc = 0; pc < filter_length; pc++) {
+    for (*place = 0; *place < (int)filter_length; ++*place) if (cause_at((unsigned)*place)) return cause_at((unsigned)*place);
+    for (*place = 0; *place < (int)filter_length; ++*place) {
+        unsigned pc = (unsigned)*place;
         struct instruction i = filter[pc];
-        if ((i.code == LOAD_A || i.code == LOAD_X) && (unwritten[pc] >> i.k & 1) != 0) answer("no 2 Kernel 6 Scratch pc", (int)pc);
+        if ((i.code == LOAD_A || i.code == LOAD_X) && (unwritten[pc] >> i.k & 1) != 0) return "no 2 Kernel 6 Scratch pc";
         unsigned written = i.code == STORE_A || i.code == STORE_X ? 1u << i.k : 0;
         for (unsigned edge = 0; class_of(i) != RET && edge < 2; edge++)
             unwritten[target_of(pc, edge)] |= (uint16_t)(unwritten[pc] & ~written);
     }
+    return NULL;
 }
 
 /* A number of a few bytes, the lowest or the highest first. */
@@ -264,15 +271,15 @@ static uint32_t number_at(const unsigned char *at, unsigned size, bool is_big_en
 /* A filter of a big-endian machine stands in its file as its kernel has it. Where it reads a half of a number, it reads here the other. */
 static void read_filter(const char *name, bool is_big_endian) {
     read_file(name);
-    if (byte_count % 8 != 0) answer("no 1 View 1 NotMultipleOf8", -1);
-    if (byte_count == 0) answer("no 1 View 2 Empty", -1);
-    if (byte_count > 8 * MOST_INSTRUCTIONS) answer("no 1 View 3 TooLong", -1);
-    for (filter_length = 0; filter_length < byte_count / 8; filter_length++) {
+    filter_fault = byte_count % 8 != 0 ? "no 1 View 1 NotMultipleOf8" : byte_count == 0 ? "no 1 View 2 Empty" : NULL;
+    if (!filter_fault && byte_count > 8 * MOST_INSTRUCTIONS) filter_fault = "no 1 View 3 TooLong";
+    for (; !filter_fault && filter_length < byte_count / 8; filter_length++) {
         const unsigned char *at = (unsigned char *)bytes + 8 * filter_length;
         struct instruction i = {(uint16_t)number_at(at, 2, is_big_endian), at[2], at[3], number_at(at + 4, 4, is_big_endian)};
         if (is_big_endian && i.code == LOAD && i.k >= 8 && i.k < 64 && i.k % 4 == 0) i.k ^= 4;
         filter[filter_length] = i;
     }
+    if (!filter_fault) filter_fault = kernel_fault(&filter_place);
 }
 
 /* ---- The certificate's bytes ---- */
@@ -282,33 +289,36 @@ enum { STEP, SPLIT, RETURN, DEAD, A = 0, X, SCRATCH, VALUES = SCRATCH + 16 };
 /* A literal has a word and two numbers. A claim OUT has the place of a rule, and MET that of a rule and of its condition. */
 struct literal { uint8_t tag, word; uint32_t first, second; };
 struct value { uint8_t tag, word; uint32_t number; };
-/* The entries of chains, from 1 on. In form 1 the literals of each node are a chain of their own. */
-static struct entry { uint32_t parent, depth; bool is_wrong; struct literal literal; } entries[FORM_1_ENTRIES + 1];
+/* The entries of chains, from 1 on. In form 1 the literals of each node are a chain of their own. Of the chain that ends with it an entry
+ * has the number of entries, that of literals, and the work of asking for all at a successor. */
+static struct entry { uint32_t parent, depth, literals, asked; bool is_wrong; struct literal literal; } entries[FORM_1_ENTRIES + 1];
 static uint32_t entry_count, node_count, form;
 static struct node { uint32_t kind, pc, chain, successor[2]; struct value value[VALUES]; struct literal split[2]; } nodes[MOST_NODES];
 static const char bad_node[] = "no 3 Form 4 BadNode", bad_count[] = "no 3 Form 5 BadCount", bad_version[] = "no 3 Form 2 BadVersion";
+/* Answers what is wrong with the certificate, or what comes before that. */
+static _Noreturn void no_certificate(const char *words) { answer(filter_fault ? filter_fault : words, filter_fault ? filter_place : -1); }
 /* Reads a field of so many bytes. If it is above `most`, the answer is `above`. */
 static uint32_t take(unsigned size, uint32_t most, const char *above) {
     uint32_t number = 0;
-    if (byte_count - cursor < size) answer("no 3 Form 3 Truncated", -1);
+    if (byte_count - cursor < size) no_certificate("no 3 Form 3 Truncated");
     for (unsigned i = 0; i < size; i++) number |= (uint32_t)(unsigned char)bytes[cursor++] << 8 * i;
-    if (number > most) answer(above, -1);
+    if (number > most) no_certificate(above);
     return number;
 }
 
 static struct value take_value(bool is_stated) {
     uint8_t tag = (uint8_t)take(1, MASKED, bad_node);
-    if (is_stated && tag == UNKNOWN) answer(bad_node, -1);
+    if (is_stated && tag == UNKNOWN) no_certificate(bad_node);
     uint8_t word = (uint8_t)take(1, tag == MASKED ? 15 : 0, bad_node);
     return (struct value){tag, word, take(4, tag == UNKNOWN ? 0 : ALL, bad_node)};
 }
 
 static struct literal take_literal(uint32_t most) {
     uint8_t tag = (uint8_t)take(1, most, bad_node);
-    if (tag == NONE) answer(bad_node, -1);
+    if (tag == NONE) no_certificate(bad_node);
     uint8_t word = (uint8_t)take(1, tag <= NOT_BITS ? 15 : 0, bad_node);
     uint32_t first = take(4, ALL, bad_node), second = take(4, tag == OUT ? 0 : ALL, bad_node);
-    if ((tag == BITS || tag == NOT_BITS) && (second & ~first) != 0) answer(bad_node, -1);
+    if ((tag == BITS || tag == NOT_BITS) && (second & ~first) != 0) no_certificate(bad_node);
     return (struct literal){tag, word, first, second};
 }
 /* Reads an entry. A claim of a rule or condition that the profile has not becomes nothing, and makes all chains with it wrong. */
@@ -316,8 +326,11 @@ static void take_entry(uint32_t parent, uint32_t most) {
     struct literal literal = take_literal(most);
     bool is_wrong = literal.tag >= OUT && literal.first >= rule_count;
     is_wrong |= literal.tag == MET && !is_wrong && literal.second >= rules[literal.first].conditions;
+    uint32_t literals = entries[parent].literals + (literal.tag <= NOT_BITS), asked = entries[parent].asked;
+    asked += literal.tag != OUT ? 2 : is_wrong ? 1 : weight_of(literal.first);
     if (is_wrong) literal.tag = NONE;
-    entries[++entry_count] = (struct entry){parent, entries[parent].depth + 1, is_wrong || entries[parent].is_wrong, literal};
+    is_wrong |= entries[parent].is_wrong;
+    entries[++entry_count] = (struct entry){parent, entries[parent].depth + 1, literals, asked, is_wrong, literal};
 }
 
 static void take_node(struct node *node) {
@@ -330,7 +343,7 @@ static void take_node(struct node *node) {
     for (unsigned i = 0; i < 16; i++) if (stated >> i & 1) node->value[SCRATCH + i] = take_value(true);
     for (; literals > 0; literals--, node->chain = entry_count) take_entry(node->chain, NOT_BITS);
     if (form > 1) node->chain = take(4, entry_count, bad_node);
-    if (entries[node->chain].depth > MOST_HELD) answer(bad_node, -1);
+    if (entries[node->chain].depth > MOST_HELD) no_certificate(bad_node);
     for (unsigned i = 0; node->kind == SPLIT && i < 2; i++) node->split[i] = take_literal(NOT_BITS);
     for (unsigned i = 0; node->kind <= SPLIT && i < 2; i++) node->successor[i] = take(4, ALL, bad_node);
 }
@@ -338,19 +351,82 @@ static void take_node(struct node *node) {
 static void read_certificate(const char *name) {
     static uint32_t offset[MOST_NODES];
     read_file(name);
-    if (byte_count > MOST_BYTES) answer(bad_count, -1);
-    if (byte_count < 4 || memcmp(bytes, "CCRT", 4) != 0) answer("no 3 Form 1 BadMagic", -1);
+    if (byte_count > MOST_BYTES) no_certificate(bad_count);
+    if (byte_count < 4 || memcmp(bytes, "CCRT", 4) != 0) no_certificate("no 3 Form 1 BadMagic");
     cursor = 4;
-    if ((form = take(4, 4, bad_version)) == 0) answer(bad_version, -1);
-    if ((node_count = take(4, MOST_NODES, bad_count)) == 0) answer(bad_count, -1);
+    if ((form = take(4, 4, bad_version)) == 0) no_certificate(bad_version);
+    if ((node_count = take(4, MOST_NODES, bad_count)) == 0) no_certificate(bad_count);
     uint32_t chained = form > 1 ? take(4, MOST_ENTRIES, bad_count) : 0;
     while (entry_count < chained) take_entry(take(4, entry_count, bad_node), form == 4 ? MET : NOT_BITS);
     for (unsigned n = 0; form > 1 && n < node_count; n++) offset[n] = take(4, ALL, bad_node);
     for (unsigned n = 0; n < node_count; n++) {
-        if (form > 1 && offset[n] != cursor) answer(bad_node, -1);
+        if (form > 1 && offset[n] != cursor) no_certificate(bad_node);
         take_node(&nodes[n]);
     }
-    if (cursor != byte_count) answer("no 3 Form 6 Trailing", -1);
+    if (cursor != byte_count) no_certificate("no 3 Form 6 Trailing");
+}
+
+/* ---- The work of a check ---- */
+/* The weight of all rules whose numbers are in a range: for each token, that of those up to its end less that of those before it. */
+static uint64_t weight_between(uint64_t least, uint64_t greatest) {
+    static uint32_t weight_before[MOST_RULES + 1]; /* of the rules in front of a place in `sorted` */
+    for (unsigned i = 0; weight_before[rule_count] == 0 && i < rule_count; i++)
+        weight_before[i + 1] = weight_before[i] + weight_of(sorted[i]);
+    uint64_t weight = 0, after;
+    for (unsigned i = 0; i < rule_count; i = first_from(after)) {
+        uint64_t token = key_of(sorted[i]) >> 32 << 32;
+        after = token + ALL + 1;
+        weight += weight_before[first_from(token + greatest + 1)] - weight_before[first_from(token + least)];
+    }
+    return weight;
+}
+/* Whether word 0 has a point in a chain whose In and whole Bits leave it a range, which then becomes that of the points. Each number that
+ * a NotBits excludes is marked by how far it is from both ends. No more than MOST_HELD are. */
+static bool points_of(uint32_t chain, uint64_t *least, uint64_t *greatest) {
+    bool from_least[MOST_HELD + 1] = {false}, from_greatest[MOST_HELD + 1] = {false};
+    for (uint32_t i = chain; i != 0; i = entries[i].parent) {
+        struct literal literal = entries[i].literal;
+        if (literal.tag != NOT_BITS || literal.word != 0 || literal.first != ALL) continue;
+        if (literal.second >= *least && literal.second - *least <= MOST_HELD) from_least[literal.second - *least] = true;
+        if (literal.second <= *greatest && *greatest - literal.second <= MOST_HELD) from_greatest[*greatest - literal.second] = true;
+    }
+    uint64_t first = *least, last = *greatest;
+    while (first <= last && from_least[first - *least]) first++;
+    while (first < last && from_greatest[*greatest - last]) last--;
+    *least = first, *greatest = last;
+    return first <= last;
+}
+/* The work of a Return: the weight of the rules that word 0 leaves. */
+static uint64_t work_of_return(uint32_t chain) {
+    uint64_t least = 0, greatest = ALL;
+    uint32_t mask = 0, data = 0;
+    for (uint32_t i = chain; i != 0; i = entries[i].parent) {
+        struct literal literal = entries[i].literal;
+        if ((literal.tag != IN && literal.tag != BITS) || literal.word != 0) continue;
+        if (literal.tag == BITS) mask |= literal.first, data |= literal.second;
+        if (literal.tag == BITS && literal.first == ALL) literal.first = literal.second;
+        else if (literal.tag == BITS) continue;
+        if (literal.first > least) least = literal.first;
+        if (literal.second < greatest) greatest = literal.second;
+    }
+    bool has_least = least <= greatest && points_of(chain, &least, &greatest) && (mask & (data ^ least)) == 0;
+    for (uint32_t i = chain; i != 0 && has_least; i = entries[i].parent) {
+        struct literal literal = entries[i].literal;
+        has_least = literal.tag != NOT_BITS || literal.word != 0 || (least & literal.first) != literal.second;
+    }
+    return has_least ? weight_between(least, greatest) : weight_between(0, ALL);
+}
+
+static bool is_too_large(void) {
+    uint64_t work = 0;
+    for (const struct node *node = nodes; node < nodes + node_count; node++) {
+        work += entries[node->chain].literals;
+        for (unsigned edge = 0; node->kind <= SPLIT && edge < 2; edge++)
+            if (node->successor[edge] < node_count) work += entries[nodes[node->successor[edge]].chain].asked;
+    }
+    for (const struct node *node = nodes; node < nodes + node_count && work <= MOST_WORK; node++)
+        if (node->kind == RETURN) work += work_of_return(node->chain);
+    return work > MOST_WORK;
 }
 
 /* ---- What is known: a stack of a node's literals and claims, and on top of them the fact of an edge ---- */
@@ -666,8 +742,9 @@ int main(int count, char **names) {
     if (count != 5 || names[2][0] == '-' || names[3][0] == '-' || names[4][0] == '-') fault(2, "usage: second MACHINE PROFILE FILTER CERTIFICATE", "");
     read_profile(names[2], names[1]);
     read_filter(names[3], strcmp(names[1], "linux-s390x") == 0);
-    check_kernel();
     read_certificate(names[4]);
+    if (strncmp(names[1], "linux-", 6) == 0 && is_too_large()) answer("refused check 1 TooLarge", -1);
+    if (filter_fault) answer(filter_fault, filter_place);
     bool is_root = nodes[0].pc == 0 && nodes[0].chain == 0;
     for (unsigned i = 0; i < VALUES; i++) is_root &= nodes[0].value[i].tag == (i <= X ? CONST : UNKNOWN) && nodes[0].value[i].number == 0;
     if (!is_root) answer("no 4 Root", -1);
